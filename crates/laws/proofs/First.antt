@@ -1,0 +1,25 @@
+-- What `firstOf` answers, exactly: an answer is given where its test holds and no earlier one does. Assumes nothing.
+use mathlib.Core.Path.{_≡_, refl, ap, _∙_}
+use mathlib.Core.Bool.{Bool, true, false, cond}
+use mathlib.Core.List.{List, [], _∷_}
+use mathlib.Core.Logic.{_⊎_, inl, inr}
+use Rattle.laws.specs.Lists.{firstOf}
+
+module _ {A : Type 0} where
+  -- the first test holds and has the answer v, or it does not hold and v is given after it
+  abbrev pub Given : List (Bool × A) → A → A → Type 0
+  Given [] last v = last ≡ v
+  Given (t ∷ ts) last v = ((t .0 ≡ true) × (t .1 ≡ v)) ⊎ ((t .0 ≡ false) × Given ts last v)
+
+  one : (b : Bool) (x y v : A) (P : Type 0) → (y ≡ v → P) → cond b x y ≡ v → ((b ≡ true) × (x ≡ v)) ⊎ ((b ≡ false) × P)
+  one true x y v P f e = inl (refl, e)
+  one false x y v P f e = inr (refl, f e)
+
+  pub given : (ts : List (Bool × A)) (last v : A) → firstOf ts last ≡ v → Given ts last v
+  given [] last v e = e
+  given (t ∷ ts) last v e = one (t .0) (t .1) (firstOf ts last) v (Given ts last v) (given ts last v) e
+
+  pub first : (ts : List (Bool × A)) (last v : A) → Given ts last v → firstOf ts last ≡ v
+  first [] last v e = e
+  first (t ∷ ts) last v (inl h) = ap (λ (b : Bool). cond b (t .1) (firstOf ts last)) (h .0) ∙ h .1
+  first (t ∷ ts) last v (inr h) = ap (λ (b : Bool). cond b (t .1) (firstOf ts last)) (h .0) ∙ first ts last v (h .1)

@@ -1,0 +1,25 @@
+-- Document 01, "Proved examples", as far as they are of packets, and a witness of the round trip. Assumes nothing.
+use mathlib.Core.Path.{_≡_, refl}
+use mathlib.Core.List.{List, [], _∷_, map}
+use Prim.Native.Nat.{ℕ}
+use lib.Dec.{lit≤}
+use lib.ListN.{replicate}
+use Rattle.wire.specs.Crc.{step, after, bits, sent, check, crc5, crc16}
+use Rattle.wire.specs.Pid.{kindOf, pidOf}
+use Rattle.wire.specs.declared.pid.Kind.{Kind}
+use Rattle.wire.specs.declared.pid.Pid.{Pid}
+use Rattle.wire.proofs.RoundTrip.{ReadsBack, round-trip}
+
+pub record Examples : Type 0 where
+  pub pids : map pidOf (0xE1 ∷ 0xF0 ∷ 0xE0 ∷ []) ≡ Pid.Checked Kind.Out ∷ Pid.Checked Kind.Reserved ∷ Pid.Failed ∷ []
+  pub token-checks : map crc5 (0 ∷ 1 ∷ 129 ∷ []) ≡ 0x02 ∷ 0x1D ∷ 0x0B ∷ []
+  pub payload-checks : map crc16 ([] ∷ (0x00 ∷ []) ∷ (0xFF ∷ []) ∷ []) ≡ 0x0000 ∷ 0xBF40 ∷ 0xFF00 ∷ []
+
+pub examples : Examples
+unfolding kindOf pidOf step after bits sent check
+examples = record { pids = refl; token-checks = refl; payload-checks = refl }
+
+-- what the round trip asks can be had
+pub witness : ReadsBack 3 (0xFF ∷ []) (replicate 1027 0)
+unfolding kindOf
+witness = round-trip 3 (0xFF ∷ []) refl (lit≤ tt) (replicate 1027 0) (lit≤ tt)

@@ -1,0 +1,64 @@
+// PIDs: what kind of packet a first byte says.
+ghost use mathlib.Core.Path.{_≡_};
+ghost use Rattle.wire.specs.Pid.{kindOf, low, pidOf};
+
+// The sixteen kinds, in the order of their numbers.
+pub enum Kind {
+    Reserved,
+    Out,
+    Ack,
+    Data0,
+    Ping,
+    Sof,
+    Nyet,
+    Data2,
+    Split,
+    In,
+    Nak,
+    Data1,
+    Pre,
+    Setup,
+    Stall,
+    Mdata,
+}
+
+pub enum Pid {
+    Checked(Kind),
+    Failed,
+}
+
+// The kind of packet that the low four bits name.
+pub fn named(byte: u8) -> Kind
+    ensures { λ r. ⌜ r ≡ kindOf (low byte) ⌝ }
+{
+    let low = byte % 16;
+    match low {
+        1 => Kind::Out,
+        2 => Kind::Ack,
+        3 => Kind::Data0,
+        4 => Kind::Ping,
+        5 => Kind::Sof,
+        6 => Kind::Nyet,
+        7 => Kind::Data2,
+        8 => Kind::Split,
+        9 => Kind::In,
+        10 => Kind::Nak,
+        11 => Kind::Data1,
+        12 => Kind::Pre,
+        13 => Kind::Setup,
+        14 => Kind::Stall,
+        15 => Kind::Mdata,
+        _ => Kind::Reserved,
+    }
+}
+
+// A PID byte: its kind, if the high four bits are the complement of the low four.
+pub fn read(byte: u8) -> Pid
+    ensures { λ r. ⌜ r ≡ pidOf byte ⌝ }
+{
+    if byte / 16 == 15 - byte % 16 {
+        Pid::Checked(named(byte))
+    } else {
+        Pid::Failed
+    }
+}
