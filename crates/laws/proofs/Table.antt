@@ -18,6 +18,10 @@ module _ {A : Type 0} (f : ℕ → A) (d : A) where
   pub lookup : (n k : ℕ) → k < n → getD (values f 0 n) k d ≡ f k
   lookup n k h = from n 0 k h ∙ ap f (zero-add k)
 
+-- two functions whose values antt computes alike
+pub same-values : {A : Type 0} (f g : ℕ → A) (n : ℕ) → values f 0 n ≡ values g 0 n → (k : ℕ) → k < n → f k ≡ g k
+same-values {A} f g n e k h = sym (lookup f (f 0) n k h) ∙ ap (λ (l : List A). getD l k (f 0)) e ∙ lookup g (f 0) n k h
+
 -- the elements from a place of a list on, as code reads them
 pub taken : {A : Type 0} (l : List A) (d : A) (n i : ℕ) → i + n ≤ length l → take n (drop i l) ≡ values (λ k. getD l k d) i n
 taken l d zero i h = refl

@@ -1,7 +1,6 @@
 -- Document 01, "Proved examples", as far as they are of packets, and a witness of the round trip. Assumes nothing.
 use mathlib.Core.Path.{_≡_, refl}
-use mathlib.Core.List.{List, [], _∷_, map}
-use Prim.Native.Nat.{ℕ}
+use mathlib.Core.List.{[], _∷_, map}
 use lib.Dec.{lit≤}
 use lib.ListN.{replicate}
 use Rattle.wire.specs.Crc.{step, after, bits, sent, check, crc5, crc16}

@@ -1,20 +1,19 @@
 -- A data packet is good exactly when it passes the four tests. Assumes nothing.
-use mathlib.Core.Path.{_≡_, refl, sym, ap, _∙_}
-use mathlib.Core.Bool.{Bool, true, false, cond, false≢true}
+use mathlib.Core.Path.{_≡_, refl, ap, _∙_}
+use mathlib.Core.Bool.{true, false≢true}
 use mathlib.Core.List.{List, []}
 use mathlib.Core.Logic.{_⊎_, inl, inr}
-use Prim.Native.Nat.{ℕ, _-_, _≤_}
+use Prim.Native.Nat.{ℕ, _≤_}
 use native.Mathlib.Omega.{arith}
 use borrow.Author.Tests.{ltb-false, le-ltb, not-false}
-use lib.Dec.{eqb}
 use lib.ListN.{length, getD}
 use Rattle.laws.proofs.First.{given}
-use Rattle.wire.specs.Pid.{kindOf, isData, low, high, pidOf}
+use Rattle.wire.specs.Pid.{kindOf, isData, low, pidOf}
 use Rattle.wire.specs.Data.{isDataPid, rightCheck, faults, verdictOf, payloadBy, payloadOf, verdictNumber, verdictFrom}
 use Rattle.wire.specs.declared.pid.Kind.{Kind}
 use Rattle.wire.specs.declared.pid.Pid.{Pid}
 use Rattle.wire.specs.declared.data.Verdict.{Verdict}
-use Rattle.wire.proofs.Pids.{kind-number}
+use Rattle.wire.proofs.Pids.{kind-number, checked-kind}
 
 pub record Passed (s : List ℕ) (kind : Kind) : Type 0 where
   pub least : 3 ≤ length s
@@ -54,12 +53,11 @@ unfolding payloadOf
 not-good-empty s e = ap (λ (v : Verdict). payloadBy v s) e
 
 data-kind : (byte : ℕ) → isDataPid (pidOf byte) ≡ true → isData (kindOf (low byte)) ≡ true
-unfolding pidOf
-data-kind byte = go (eqb (high byte) (15 - low byte))
+data-kind byte = go (pidOf byte) refl
   where
-    go : (checked : Bool) → isDataPid (cond checked (Pid.Checked (kindOf (low byte))) Pid.Failed) ≡ true → isData (kindOf (low byte)) ≡ true
-    go true e = e
-    go false e = absurd (false≢true e)
+    go : (pid : Pid) → pidOf byte ≡ pid → isDataPid pid ≡ true → isData (kindOf (low byte)) ≡ true
+    go (Pid.Checked kind) e h = ap isData (checked-kind byte e) ∙ h
+    go Pid.Failed e h = absurd (false≢true h)
 
 -- the number that `read` lays down tells every verdict apart
 pub verdict-numbered : (s : List ℕ) → verdictFrom (verdictNumber (verdictOf s)) ≡ verdictOf s

@@ -5,7 +5,7 @@ use mathlib.Core.List.{List, [], _∷_, _++_, append-assoc}
 use Prim.Native.Nat.{ℕ, suc, _+_, _-_, _/_, _%_, _≤_}
 use native.Mathlib.Omega.{arith}
 use borrow.Author.Tests.{le-ltb, eq-eqb}
-use lib.ListN.{length, getD, take, drop, length-append}
+use lib.ListN.{length, getD, take, length-append}
 use lib.Seq.{take-at, getD-at}
 use Rattle.wire.specs.Crc.{crc16}
 use Rattle.wire.specs.Pid.{kindOf, isData, pidOf, pidByte}
@@ -89,7 +89,7 @@ module _ (pid : ℕ) (payload : List ℕ) where
         simp (le-ltb _ _ room, data-pid, le-ltb _ _ most) in
         let front : take (length payload + 3) (bufferAfter pid payload buffer) ≡ packet pid payload =
         ap (λ (w : Written). take (length payload + 3) (bufferBy w pid payload buffer)) done
-        ∙ take-at (packet pid payload) (drop (length payload + 3) buffer) (length payload + 3) long in
+        ∙ take-at (packet pid payload) _ (length payload + 3) long in
         record {
           written = done;
           verdict-back = ap verdictOf front ∙ read;

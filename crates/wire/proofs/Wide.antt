@@ -9,7 +9,7 @@ use lib.ListN.{length, getD, take, drop}
 use lib.Seq.{take-add}
 use Rattle.laws.specs.Table.{values}
 use Rattle.laws.proofs.Additive.{Additive, additive-shr, additive-mod, additive-shl, additive-xor, additive-then, agree}
-use Rattle.laws.proofs.Table.{lookup, taken}
+use Rattle.laws.proofs.Table.{same-values, taken}
 use Rattle.wire.specs.Crc.{step, after, bits, sent, g16}
 use Rattle.wire.specs.Wide.{settled, little}
 use Rattle.wire.proofs.Register.{after-append, zeros-additive, bits-in, sent-append, bytes-values, bits-little, little-append}
@@ -45,17 +45,15 @@ near r = settled (moved r)
 abbrev far : ℕ → ℕ
 far r = after g16 (settled r) (bits 64 0)
 
-same : values (λ k. near (2 ^ k)) 0 64 ≡ values (λ k. far (2 ^ k)) 0 64
+on-powers : (k : ℕ) → k < 64 → near (2 ^ k) ≡ far (2 ^ k)
 unfolding step after bits
-same = refl
+on-powers = same-values (λ k. near (2 ^ k)) (λ k. far (2 ^ k)) 64 refl
 
 zeros : Additive settled
 zeros = zeros-additive g16 64
 
 pub onward : (r : ℕ) → r < 2 ^ 64 → near r ≡ far r
-onward =
-    agree (additive-then moved-additive zeros) (additive-then zeros zeros) 64
-    (λ k h. sym (lookup (λ k. near (2 ^ k)) 0 64 k h) ∙ ap (λ (l : List ℕ). getD l k 0) same ∙ lookup (λ k. far (2 ^ k)) 0 64 k h)
+onward = agree (additive-then moved-additive zeros) (additive-then zeros zeros) 64 on-powers
 
 -- eight bytes more
 pub eight-more : (p : List ℕ) (i wide x w : ℕ) → w < 2 ^ 64 → settled x ≡ after g16 (settled wide) (bits 64 0)

@@ -2,6 +2,7 @@
 use crate::crc;
 use crate::pid;
 use crate::pid::Kind;
+use crate::pid::Pid;
 use crate::token;
 ghost use mathlib.Core.Path.{_≡_};
 ghost use mathlib.Core.List.{_++_};
@@ -25,10 +26,10 @@ pub enum Written {
 }
 
 // The number of a data PID.
-fn is_data(pid: u32) -> bool
-    ensures { λ r. ⌜ r ≡ isData (kindOf pid) ⌝ }
+fn is_data(number: u32) -> bool
+    ensures { λ r. ⌜ r ≡ isData (kindOf number) ⌝ }
 {
-    match pid {
+    match number {
         3 | 7 | 11 | 15 => true,
         _ => false,
     }
@@ -38,11 +39,10 @@ fn is_data(pid: u32) -> bool
 fn is_data_pid(byte: u8) -> bool
     ensures { λ r. ⌜ r ≡ isDataPid (pidOf byte) ⌝ }
 {
-    let low = byte % 16;
-    if byte / 16 != 15 - low {
-        return false;
+    match pid::read(byte) {
+        Pid::Checked(_) => is_data((byte % 16) as u32),
+        Pid::Failed => false,
     }
-    is_data(low as u32)
 }
 
 // Between the PID byte and the CRC16.
@@ -79,7 +79,7 @@ fn judge(bytes: &[u8]) -> Verdict
     if !is_right(bytes) {
         return Verdict::NotGood;
     }
-    Verdict::Good(pid::named(first))
+    Verdict::Good(pid::named((first % 16) as u32))
 }
 
 // Reads a data packet: returns its payload, the part of `bytes` between the PID byte and the CRC16, and lays down the verdict's number.
@@ -102,8 +102,9 @@ pub fn read<'a>(bytes: &'a [u8], verdict: &mut u8) -> &'a [u8]
 pub fn numbered(number: u8) -> Verdict
     ensures { λ r. ⌜ r ≡ verdictFrom number ⌝ }
 {
-    if is_data(number as u32) {
-        Verdict::Good(pid::named(number))
+    let pid = number as u32;
+    if is_data(pid) {
+        Verdict::Good(pid::named(pid))
     } else {
         Verdict::NotGood
     }
@@ -144,5 +145,6 @@ pub fn write(pid: u32, payload: &[u8], buffer: &mut [u8]) -> Written
         return Written::Refused(6);
     }
     fill(pid as u8, payload, buffer);
-    Written::Packet(payload.len() + 3)
+    let length = payload.len() + 3;
+    Written::Packet(length)
 }

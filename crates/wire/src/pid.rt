@@ -1,6 +1,6 @@
 // PIDs: what kind of packet a first byte says.
 ghost use mathlib.Core.Path.{_≡_};
-ghost use Rattle.wire.specs.Pid.{kindOf, low, pidOf};
+ghost use Rattle.wire.specs.Pid.{kindOf, pidOf};
 
 // The sixteen kinds, in the order of their numbers.
 pub enum Kind {
@@ -27,12 +27,11 @@ pub enum Pid {
     Failed,
 }
 
-// The kind of packet that the low four bits name.
-pub fn named(byte: u8) -> Kind
-    ensures { λ r. ⌜ r ≡ kindOf (low byte) ⌝ }
+// The kind of that number: a PID's low four bits are one of the sixteen, and any greater number names none.
+pub fn named(number: u32) -> Kind
+    ensures { λ r. ⌜ r ≡ kindOf number ⌝ }
 {
-    let low = byte % 16;
-    match low {
+    match number {
         1 => Kind::Out,
         2 => Kind::Ack,
         3 => Kind::Data0,
@@ -56,8 +55,9 @@ pub fn named(byte: u8) -> Kind
 pub fn read(byte: u8) -> Pid
     ensures { λ r. ⌜ r ≡ pidOf byte ⌝ }
 {
-    if byte / 16 == 15 - byte % 16 {
-        Pid::Checked(named(byte))
+    let low = byte % 16;
+    if byte / 16 == 15 - low {
+        Pid::Checked(named(low as u32))
     } else {
         Pid::Failed
     }

@@ -14,7 +14,7 @@ returns c = ⊎-elim (λ e. search needs) (⊎-elim (λ e. search needs) (⊎-el
 
 returns-2 : tie.Need-returns-2
 returns-2 c =
-    let n = c .before .args .pid in
+    let n = c .before .args .number in
     let r = c .match .rest .1 in
     sym (data-number n ∙ simp (ne-eqb n 3 (λ e. r (inl e)), ne-eqb n 7 (λ e. r (inr (inl e))), ne-eqb n 11 (λ e. r (inr (inr (inl e)))), ne-eqb n 15 (λ e. r (inr (inr (inr e))))))
 

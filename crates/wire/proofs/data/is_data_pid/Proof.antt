@@ -1,16 +1,17 @@
 -- `wire::data::is_data_pid` meets its contract: a byte that passes its check has the kind of its low four bits. Assumes nothing.
-use borrow.Author.Tests.{eq-eqb, ne-eqb}
-use Rattle.wire.specs.Pid.{pidOf}
+use mathlib.Core.Path.{sym, ap, _∙_}
+use Rattle.wire.specs.Data.{isDataPid}
+use Rattle.wire.specs.Pid.{isData}
+use Rattle.wire.proofs.Pids.{checked-kind}
 use borrow.Author.Needs.{needs}
 use Rattle.wire.proofs.data.is_data_pid.Statement.{statement}
 use Rattle.wire.proofs.data.is_data_pid.Tie as tie
 
-sub-if1 : tie.Need-sub-if1
-sub-if1 c = search needs
+read-requires : tie.Need-read-requires
+read-requires c κs = search needs
 
-returns : tie.Need-returns
-unfolding pidOf
-returns c = simp (ne-eqb _ _ (c .if1 .taken))
+enum-told : tie.Need-enum-told
+enum-told c = search needs
 
 cast-is-data : tie.Need-cast-is-data
 cast-is-data c = search needs
@@ -18,9 +19,18 @@ cast-is-data c = search needs
 is-data-requires : tie.Need-is-data-requires
 is-data-requires c κs = search needs
 
+enum-told-2 : tie.Need-enum-told-2
+enum-told-2 c = search needs
+
+returns : tie.Need-returns
+returns c =
+    let e = sym (c .before .before .before .read .ensures) ∙ c .before .enum-told .given .1 in
+    c .is-data .ensures ∙ ap isData (checked-kind (c .before .before .before .before .args .byte) e) ∙ sym (ap isDataPid e)
+
 returns-2 : tie.Need-returns-2
-unfolding pidOf
-returns-2 c = simp (eq-eqb _ _ (c .before .if1 .left)) (c .is-data .ensures)
+returns-2 c = sym (ap isDataPid (sym (c .before .before .read .ensures) ∙ c .enum-told2 .given .1))
 
 pub is-data-pid-spec : {M : Type 1} → statement M
-is-data-pid-spec = tie.close (tie.spec sub-if1 returns cast-is-data is-data-requires returns-2)
+is-data-pid-spec =
+    tie.close
+    (tie.spec read-requires enum-told cast-is-data is-data-requires enum-told-2 returns returns-2)

@@ -30,6 +30,9 @@ returns-4 : tie.Need-returns-4
 unfolding verdictOf
 returns-4 c = simp (le-ltb _ _ (c .before .before .before .before .before .before .if1 .left), le-ltb _ _ (c .before .before .before .before .before .if2 .left), ← c .before .before .before .is-data-pid .ensures, c .before .before .if3 .left, ← c .before .is-right .ensures, c .if4 .taken)
 
+cast-named : tie.Need-cast-named
+cast-named c = search needs
+
 named-requires : tie.Need-named-requires
 named-requires c κs = search needs
 
@@ -48,5 +51,6 @@ judge-spec =
     returns-3
     is-right-requires
     returns-4
+    cast-named
     named-requires
     returns-5)

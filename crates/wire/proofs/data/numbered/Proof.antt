@@ -1,10 +1,7 @@
--- `wire::data::numbered` meets its contract: a data PID's number has four bits, so its low four are the number. Assumes nothing.
+-- `wire::data::numbered` meets its contract: its test is the definition's. Assumes nothing.
 use mathlib.Core.Path.{sym, ap, _∙_}
-use native.Mathlib.Nat.{mod-eq-of-lt}
 use Rattle.wire.specs.Data.{verdictFrom}
-use Rattle.wire.specs.Pid.{kindOf}
 use Rattle.wire.specs.declared.data.Verdict.{Verdict}
-use Rattle.wire.proofs.Pids.{data-small}
 use borrow.Author.Needs.{needs}
 use Rattle.wire.proofs.data.numbered.Statement.{statement}
 use Rattle.wire.proofs.data.numbered.Tie as tie
@@ -17,10 +14,7 @@ named-requires c κs = search needs
 
 returns : tie.Need-returns
 unfolding verdictFrom
-returns c =
-    let n = c .before .before .before .args .number in
-    let d = sym (c .before .before .is-data .ensures) ∙ c .before .if1 .taken in
-    simp d (ap Verdict.Good (c .named .ensures ∙ ap kindOf (mod-eq-of-lt (data-small n d))))
+returns c = simp (sym (c .before .before .is-data .ensures) ∙ c .before .if1 .taken) (ap Verdict.Good (c .named .ensures))
 
 returns-2 : tie.Need-returns-2
 unfolding verdictFrom

@@ -42,8 +42,8 @@ fill-requires c κs =
     let small = data-small _ (sym (c .before .before .before .is-data .ensures) ∙ not-false _ (c .before .before .if2 .left)) in
     omega arith
 
-add-t11 : tie.Need-add-t11
-add-t11 c = search needs
+add-length : tie.Need-add-length
+add-length c = search needs
 
 same-length : tie.Need-same-length
 same-length c = search needs
@@ -67,6 +67,6 @@ write-spec =
     returns-3
     cast-fill
     fill-requires
-    add-t11
+    add-length
     same-length
     returns-4)

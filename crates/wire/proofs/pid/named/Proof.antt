@@ -1,9 +1,7 @@
--- `wire::pid::named` meets its contract: each arm names its number, and where no arm does 0 is left of the sixteen. Assumes nothing.
+-- `wire::pid::named` meets its contract: each arm names its number, and where no arm does there is none, or 0. Assumes nothing.
 use mathlib.Core.Path.{sym, ap}
-use Prim.Native.Nat.{_%_}
-use native.Mathlib.Omega.{arith}
 use Rattle.wire.specs.Pid.{kindOf}
-use Rattle.wire.proofs.Pids.{zero-left}
+use Rattle.wire.proofs.Pids.{left-reserved}
 use Rattle.wire.proofs.pid.named.Statement.{statement}
 use Rattle.wire.proofs.pid.named.Tie as tie
 
@@ -68,8 +66,7 @@ unfolding kindOf
 returns-15 c = sym (ap kindOf (c .match .keys15))
 
 returns-16 : tie.Need-returns-16
-unfolding kindOf
-returns-16 c = sym (ap kindOf (zero-left 15 (c .before .args .byte % 16) (omega arith) (c .match .rest)))
+returns-16 c = left-reserved (c .before .args .number) (c .match .rest)
 
 pub named-spec : {M : Type 1} → statement M
 named-spec =

@@ -10,6 +10,9 @@ use Rattle.wire.proofs.pid.read.Tie as tie
 sub-if1 : tie.Need-sub-if1
 sub-if1 c = search needs
 
+cast-named : tie.Need-cast-named
+cast-named c = search needs
+
 named-requires : tie.Need-named-requires
 named-requires c κs = search needs
 
@@ -22,4 +25,4 @@ unfolding pidOf
 returns-2 c = simp (ne-eqb _ _ (c .if1 .left))
 
 pub read-spec : {M : Type 1} → statement M
-read-spec = tie.close (tie.spec sub-if1 named-requires returns returns-2)
+read-spec = tie.close (tie.spec sub-if1 cast-named named-requires returns returns-2)
