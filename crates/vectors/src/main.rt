@@ -1,4 +1,4 @@
-// Outside vectors, played through the packet layer: the worked examples of the USB-IF paper "Cyclic Redundancy Checks in USB".
+// Packets that documents 01 and 003 write out, played through the packet layer.
 use libc::STDOUT_FILENO;
 use wire::data::Verdict;
 use wire::data::Written;
@@ -83,18 +83,17 @@ fn data(pid: u32, payload: &[u8]) {
 }
 
 fn main() {
-    token(b"\x2d\x15\xef");
-    token(b"\xe1\x3a\x3d");
-    token(b"\x69\x70\x72");
-    token(b"\xa5\x01\xe8");
-    token(b"\xa5\x01\xe9");
-    token(b"\xa5\x01");
-    data(3, b"\x00\x01\x02\x03");
-    data(11, b"\x23\x45\x67\x89");
-    data(7, b"");
+    token(b"\xe1\x81\x58");
+    token(b"\x69\x81\x58");
+    token(b"\xe1\xe1\x6c");
+    token(b"\xe1\x81");
+    data(3, b"\xff");
+    data(11, b"");
+    data(3, b"\x00");
+    data(7, b"\xa9");
     data(9, b"\x00");
-    read(b"\xc3\x00\x01\x02\x03\xef\x7a");
-    read(b"\xc3\x00\x01\x02\x03\x7a\xef");
-    read(b"\xd3\x00\x01\x02\x03\xef\x7a");
-    read(b"\xc3\x00");
+    read(b"\xc3\xff\x00\xfe");
+    read(b"\xd3\xff\x00\xff");
+    read(b"\xc3\xe1\x6c\x62");
+    read(b"\xc3\xff");
 }
