@@ -1,4 +1,6 @@
 pub mod Additive
+pub mod Bools
+pub mod Filling
 pub mod First
 pub mod Lists
 pub mod Parts

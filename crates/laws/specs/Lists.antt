@@ -1,7 +1,7 @@
 -- Tests over lists, each in the list's own order.
 use Prim.Native.Nat.{ℕ, suc}
 use mathlib.Core.Bool.{Bool, true, _&&_, cond}
-use mathlib.Core.List.{List, [], _∷_}
+use mathlib.Core.List.{List, [], _∷_, _++_}
 
 module _ {A : Type 0} where
   -- each element passes
@@ -18,6 +18,12 @@ module _ {A : Type 0} where
   abbrev pub firstOf : List (Bool × A) → A → A
   firstOf [] last = last
   firstOf (t ∷ ts) last = cond (t .0) (t .1) (firstOf ts last)
+
+module _ {A B : Type 0} where
+  -- what f gives of each element, one after the other
+  abbrev pub gather : (A → List B) → List A → List B
+  gather f [] = []
+  gather f (x ∷ xs) = f x ++ gather f xs
 
 module _ {A B : Type 0} (f : A → Bool) (hit : ℕ → B) (miss : B) where
   -- the hit at the first place, counted from k, whose element passes, or else the miss

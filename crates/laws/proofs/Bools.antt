@@ -1,0 +1,28 @@
+-- A conjunction `a && b && ..` holds exactly where each of its parts does. Assumes nothing.
+use mathlib.Core.Path.{_≡_, refl}
+use mathlib.Core.Bool.{Bool, true, false, _&&_, false≢true}
+use mathlib.Core.List.{List, [], _∷_}
+
+-- the conjunction, as it is written: to the left
+abbrev pub conjunction : Bool → List Bool → Bool
+conjunction a [] = a
+conjunction a (b ∷ l) = conjunction (a && b) l
+
+abbrev pub Each : List Bool → Type 0
+Each [] = Unit {0}
+Each (a ∷ l) = (a ≡ true) × Each l
+
+both : (a b : Bool) → (a && b) ≡ true → (a ≡ true) × (b ≡ true)
+both true b e = (refl, e)
+both false b e = absurd (false≢true e)
+
+pub parts : (a : Bool) (l : List Bool) → conjunction a l ≡ true → Each (a ∷ l)
+parts a [] e = (e, tt)
+parts a (b ∷ l) e =
+    let p = parts (a && b) l e in
+    let q = both a b (p .0) in
+    (q .0, (q .1, p .1))
+
+pub joined : (a : Bool) (l : List Bool) → Each (a ∷ l) → conjunction a l ≡ true
+joined a [] p = p .0
+joined a (b ∷ l) p = joined (a && b) l (rw (p .0, p .1 .0), p .1 .1)

@@ -1,0 +1,43 @@
+-- The ends that live records serve are different exactly where the records can stand beside each other. Assumes nothing.
+use mathlib.Core.Path.{_≡_, refl, sym, _∙_}
+use mathlib.Core.Bool.{Bool, true, false, not, _&&_, _||_, cond}
+use mathlib.Core.List.{List, [], _∷_}
+use Rattle.laws.specs.Lists.{all, pairs, gather}
+use Rattle.laws.proofs.Lists.{all-gather, all-same}
+use Rattle.state.specs.declared.Record.{Record}
+use Rattle.state.specs.declared.served.End.{End}
+use Rattle.state.specs.Ranges.{live}
+use Rattle.state.specs.Served.{endOf, endsOf, ends, sameEnd, elsewhere, beside}
+
+-- where no array element is
+abbrev pub noEnd : End
+noEnd = record { number = 0; out = false; into = false }
+
+against : (r s : Record) → live (r .condition) ≡ true → all (elsewhere (endOf (r .endpoint))) (endsOf s) ≡ beside r s
+unfolding beside
+against r s h = rw h (pick (live (s .condition)) (sameEnd (endOf (r .endpoint)) (endOf (s .endpoint))))
+  where
+    pick : (l same : Bool) → all (elsewhere (endOf (r .endpoint))) (cond l (endOf (s .endpoint) ∷ []) []) ≡ not (true && l && sameEnd (endOf (r .endpoint)) (endOf (s .endpoint)))
+    pick true same = go (sameEnd (endOf (r .endpoint)) (endOf (s .endpoint)))
+      where
+        go : (b : Bool) → (not b && true) ≡ not b
+        go true = refl
+        go false = refl
+    pick false same = refl
+
+off-beside : (r s : Record) → live (r .condition) ≡ false → beside r s ≡ true
+unfolding beside
+off-beside r s h = rw h
+
+all-true : {A : Type 0} (f : A → Bool) → ((x : A) → f x ≡ true) → (l : List A) → all f l ≡ true
+all-true f h [] = refl
+all-true f h (x ∷ l) = rw (h x, all-true f h l)
+
+pub ends-beside : (l : List Record) → pairs elsewhere (ends l) ≡ pairs beside l
+ends-beside [] = refl
+ends-beside (r ∷ l) = pick (ends-beside l) (live (r .condition)) refl
+  where
+    pick : pairs elsewhere (ends l) ≡ pairs beside l → (b : Bool) → live (r .condition) ≡ b → pairs elsewhere (ends (r ∷ l)) ≡ pairs beside (r ∷ l)
+    pick ih true e =
+        rw (e, ih, all-gather (elsewhere (endOf (r .endpoint))) endsOf l, all-same (λ s. all (elsewhere (endOf (r .endpoint))) (endsOf s)) (beside r) (λ s. against r s e) l)
+    pick ih false e = rw (e, ih, all-true (beside r) (λ s. off-beside r s e) l)

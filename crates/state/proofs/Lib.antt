@@ -1,0 +1,5 @@
+pub mod Ends
+pub mod Sharing
+pub mod Survey
+pub mod Tested
+pub mod Zero

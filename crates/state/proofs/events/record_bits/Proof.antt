@@ -1,0 +1,67 @@
+-- `state::events::record_bits` meets its contract: it adds each event's weight. Assumes nothing.
+use Rattle.state.specs.Events.{recordBits}
+use borrow.Author.Needs.{needs}
+use Rattle.state.proofs.events.record_bits.Statement.{statement}
+use Rattle.state.proofs.events.record_bits.Tie as tie
+
+weigh-requires : tie.Need-weigh-requires
+weigh-requires c κs = search needs
+
+weigh-requires-2 : tie.Need-weigh-requires-2
+weigh-requires-2 c κs = search needs
+
+add-result : tie.Need-add-result
+add-result c = search needs
+
+weigh-requires-3 : tie.Need-weigh-requires-3
+weigh-requires-3 c κs = search needs
+
+add-result-2 : tie.Need-add-result-2
+add-result-2 c = search needs
+
+weigh-requires-4 : tie.Need-weigh-requires-4
+weigh-requires-4 c κs = search needs
+
+add-result-3 : tie.Need-add-result-3
+add-result-3 c = search needs
+
+weigh-requires-5 : tie.Need-weigh-requires-5
+weigh-requires-5 c κs = search needs
+
+add-result-4 : tie.Need-add-result-4
+add-result-4 c = search needs
+
+weigh-requires-6 : tie.Need-weigh-requires-6
+weigh-requires-6 c κs = search needs
+
+add-result-5 : tie.Need-add-result-5
+add-result-5 c = search needs
+
+weigh-requires-7 : tie.Need-weigh-requires-7
+weigh-requires-7 c κs = search needs
+
+add-result-6 : tie.Need-add-result-6
+add-result-6 c = search needs
+
+returns : tie.Need-returns
+unfolding recordBits
+returns c = simp (c .weigh7 .ensures .0, c .before .weigh6 .ensures .0, c .before .before .weigh5 .ensures .0, c .before .before .before .weigh4 .ensures .0, c .before .before .before .before .weigh3 .ensures .0, c .before .before .before .before .before .weigh2 .ensures .0, c .before .before .before .before .before .before .weigh .ensures .0)
+
+pub record-bits-spec : {M : Type 1} → statement M
+record-bits-spec =
+    tie.close
+    (tie.spec
+    weigh-requires
+    weigh-requires-2
+    add-result
+    weigh-requires-3
+    add-result-2
+    weigh-requires-4
+    add-result-3
+    weigh-requires-5
+    add-result-4
+    weigh-requires-6
+    add-result-5
+    weigh-requires-7
+    add-result-6
+    returns)

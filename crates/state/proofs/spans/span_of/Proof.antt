@@ -1,0 +1,22 @@
+-- `state::spans::span_of` meets its contract: each arm is the definition's. Assumes nothing.
+use borrow.Author.Needs.{needs}
+use Rattle.state.proofs.spans.span_of.Statement.{statement}
+use Rattle.state.proofs.spans.span_of.Tie as tie
+
+enum-told : tie.Need-enum-told
+enum-told c = search needs
+
+enum-known-d : tie.Need-enum-known-d
+enum-known-d c = search needs
+
+span-from-requires : tie.Need-span-from-requires
+span-from-requires c κs = search needs
+
+returns : tie.Need-returns
+returns c = simp (c .enum-told .given .1)
+
+returns-2 : tie.Need-returns-2
+returns-2 c = simp (c .span-from .ensures, c .before .before .d .given .1)
+
+pub span-of-spec : {M : Type 1} → statement M
+span-of-spec = tie.close (tie.spec enum-told enum-known-d span-from-requires returns returns-2)

@@ -1,0 +1,24 @@
+-- Document 01, "State": the event bits, by their numbers.
+use Prim.Native.Nat.{ℕ, _+_, _^_}
+use mathlib.Core.Bool.{Bool, cond}
+use Rattle.state.specs.declared.RecordEvents.{RecordEvents}
+use Rattle.state.specs.declared.SystemEvents.{SystemEvents}
+
+-- what an event adds to the number that has its bit
+abbrev pub at : ℕ → Bool → ℕ
+at bit set = cond set (2 ^ bit) 0
+
+-- record events 0 to 6
+unfoldable pub recordBits : RecordEvents → ℕ
+recordBits e =
+    at 0 (e .«wait_ended»)
+    + at 1 (e .«not_good»)
+    + at 2 (e .«out_of_place»)
+    + at 3 (e .«first_used»)
+    + at 4 (e .«second_used»)
+    + at 5 (e .«not_taken»)
+    + at 6 (e .«short_packet»)
+
+-- system events 20, 21, 22 and 28
+unfoldable pub systemBits : SystemEvents → ℕ
+systemBits e = at 20 (e .«bad_token») + at 21 (e .«bad_pid») + at 22 (e .unserved) + at 28 (e .«bus_reset»)

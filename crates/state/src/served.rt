@@ -1,0 +1,75 @@
+// What a record serves: its number, in one direction or both.
+use crate::Endpoint;
+use crate::Kind;
+ghost use mathlib.Core.Path.{_≡_};
+ghost use Prim.Native.Nat.{_≤_};
+ghost use lib.ListN.{take};
+ghost use Rattle.laws.specs.Lists.{pairs};
+ghost use Rattle.state.specs.Served.{servesOut, servesIn, endOf, sameEnd, elsewhere};
+
+// A number, and the directions in which it is served.
+pub struct End {
+    pub number: u8,
+    pub out: bool,
+    pub into: bool,
+}
+
+pub fn serves_out(kind: Kind) -> bool
+    ensures { λ r. ⌜ r ≡ servesOut kind ⌝ }
+{
+    match kind {
+        Kind::Control => true,
+        Kind::In => false,
+        Kind::Out => true,
+    }
+}
+
+pub fn serves_in(kind: Kind) -> bool
+    ensures { λ r. ⌜ r ≡ servesIn kind ⌝ }
+{
+    match kind {
+        Kind::Control => true,
+        Kind::In => true,
+        Kind::Out => false,
+    }
+}
+
+pub fn end_of(e: Endpoint) -> End
+    ensures { λ r. ⌜ r ≡ endOf e ⌝ }
+{
+    let kind = e.kind;
+    End {
+        number: e.number,
+        out: serves_out(kind),
+        into: serves_in(kind),
+    }
+}
+
+pub fn is_same_end(a: End, b: End) -> bool
+    ensures { λ r. ⌜ r ≡ sameEnd a b ⌝ }
+{
+    (a.number == b.number) & (a.out & b.out | a.into & b.into)
+}
+
+// Whether no two of the first `count` ends are the same: the pairs in their order, up to the first that is.
+pub(crate) fn are_elsewhere(ends: [End; 16], count: usize) -> bool
+    requires { ⌜ count ≤ 16 ⌝ }
+    ensures { λ r. ⌜ r ≡ pairs elsewhere (take count ends) ⌝ }
+{
+    let mut i: usize = 0;
+    let mut j: usize = 1;
+    while i < count {
+        if j < count {
+            let a = ends[i];
+            let b = ends[j];
+            if is_same_end(a, b) {
+                return false;
+            }
+            j += 1;
+        } else {
+            i += 1;
+            j = i + 1;
+        }
+    }
+    true
+}

@@ -1,0 +1,156 @@
+// The updates of `specs/Update.antt`: with it, the one place that lists the fields of a record.
+use crate::Condition;
+use crate::Descriptor;
+use crate::Endpoint;
+use crate::Kind;
+use crate::Record;
+use crate::RecordEvents;
+use crate::SystemEvents;
+use crate::Toggles;
+use crate::Transfer;
+ghost use mathlib.Core.Path.{_≡_};
+ghost use Rattle.state.specs.Update.{noEvents, noSystemEvents, data0, fresh, offRecord, withCondition, withEvents, withToggles, withBuffers, bufferOf, withBuffer, withReset};
+
+pub fn no_events() -> RecordEvents
+    ensures { λ e. ⌜ e ≡ noEvents ⌝ }
+{
+    RecordEvents {
+        wait_ended: false,
+        not_good: false,
+        out_of_place: false,
+        first_used: false,
+        second_used: false,
+        not_taken: false,
+        short_packet: false,
+    }
+}
+
+pub fn no_system_events() -> SystemEvents
+    ensures { λ e. ⌜ e ≡ noSystemEvents ⌝ }
+{
+    SystemEvents {
+        bad_token: false,
+        bad_pid: false,
+        unserved: false,
+        bus_reset: false,
+    }
+}
+
+pub fn data0() -> Toggles
+    ensures { λ t. ⌜ t ≡ data0 ⌝ }
+{
+    Toggles {
+        out_side: false,
+        in_side: false,
+    }
+}
+
+pub fn fresh(condition: Condition, endpoint: Endpoint) -> Record
+    ensures { λ r. ⌜ r ≡ fresh condition endpoint ⌝ }
+{
+    Record {
+        condition,
+        endpoint,
+        next: false,
+        events: no_events(),
+        toggles: data0(),
+        first: Descriptor::Unallocated,
+        second: Descriptor::Unallocated,
+    }
+}
+
+pub fn off_record() -> Record
+    ensures { λ r. ⌜ r ≡ offRecord ⌝ }
+{
+    fresh(
+        Condition::Off,
+        Endpoint {
+            kind: Kind::Control,
+            transfer: Transfer::Control,
+            number: 0,
+            maximum: 0,
+        },
+    )
+}
+
+pub fn with_condition(r: Record, condition: Condition) -> Record
+    ensures { λ q. ⌜ q ≡ withCondition r condition ⌝ }
+{
+    let endpoint = r.endpoint;
+    let events = r.events;
+    let toggles = r.toggles;
+    let first = r.first;
+    let second = r.second;
+    Record {
+        condition,
+        endpoint,
+        next: r.next,
+        events,
+        toggles,
+        first,
+        second,
+    }
+}
+
+pub fn with_events(r: Record, events: RecordEvents) -> Record
+    ensures { λ q. ⌜ q ≡ withEvents r events ⌝ }
+{
+    let mut q = r;
+    q.events = events;
+    q
+}
+
+pub fn with_toggles(r: Record, toggles: Toggles) -> Record
+    ensures { λ q. ⌜ q ≡ withToggles r toggles ⌝ }
+{
+    let mut q = r;
+    q.toggles = toggles;
+    q
+}
+
+fn with_buffers(r: Record, first: Descriptor, second: Descriptor) -> Record
+    ensures { λ q. ⌜ q ≡ withBuffers r first second ⌝ }
+{
+    let condition = r.condition;
+    let endpoint = r.endpoint;
+    let events = r.events;
+    let toggles = r.toggles;
+    Record {
+        condition,
+        endpoint,
+        next: r.next,
+        events,
+        toggles,
+        first,
+        second,
+    }
+}
+
+// Buffer 0, or 1 where `second`.
+pub fn buffer_of(r: Record, second: bool) -> Descriptor
+    ensures { λ d. ⌜ d ≡ bufferOf r second ⌝ }
+{
+    let b0 = r.first;
+    let b1 = r.second;
+    if second { b1 } else { b0 }
+}
+
+pub fn with_buffer(r: Record, second: bool, d: Descriptor) -> Record
+    ensures { λ q. ⌜ q ≡ withBuffer r second d ⌝ }
+{
+    let b0 = r.first;
+    let b1 = r.second;
+    if second {
+        with_buffers(r, b0, d)
+    } else {
+        with_buffers(r, d, b1)
+    }
+}
+
+pub fn with_reset(events: SystemEvents) -> SystemEvents
+    ensures { λ e. ⌜ e ≡ withReset events ⌝ }
+{
+    let mut marked = events;
+    marked.bus_reset = true;
+    marked
+}
