@@ -35,7 +35,7 @@ pub enum Transfer {
 pub struct Endpoint {
     pub kind: Kind,
     pub transfer: Transfer,
-    pub number: u8,
+    pub number: u32,
     pub maximum: u32,
 }
 
@@ -106,7 +106,7 @@ pub enum Wait {
 
 pub struct Core {
     pub memory_size: u32,
-    pub address: u8,
+    pub address: u32,
     pub speed: Speed,
     pub events: SystemEvents,
     pub records: [Record; 16],

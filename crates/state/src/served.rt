@@ -1,15 +1,17 @@
 // What a record serves: its number, in one direction or both.
 use crate::Endpoint;
 use crate::Kind;
+use crate::Record;
+use crate::range;
 ghost use mathlib.Core.Path.{_≡_};
 ghost use Prim.Native.Nat.{_≤_};
 ghost use lib.ListN.{take};
 ghost use Rattle.laws.specs.Lists.{pairs};
-ghost use Rattle.state.specs.Served.{servesOut, servesIn, endOf, sameEnd, elsewhere};
+ghost use Rattle.state.specs.Served.{servesOut, servesIn, endOf, sameEnd, beside, elsewhere};
 
 // A number, and the directions in which it is served.
 pub struct End {
-    pub number: u8,
+    pub number: u32,
     pub out: bool,
     pub into: bool,
 }
@@ -49,6 +51,17 @@ pub fn is_same_end(a: End, b: End) -> bool
     ensures { λ r. ⌜ r ≡ sameEnd a b ⌝ }
 {
     (a.number == b.number) & (a.out & b.out | a.into & b.into)
+}
+
+// Whether two records can stand beside each other.
+pub fn are_beside(r: Record, s: Record) -> bool
+    ensures { λ b. ⌜ b ≡ beside r s ⌝ }
+{
+    let rc = r.condition;
+    let sc = s.condition;
+    let re = r.endpoint;
+    let se = s.endpoint;
+    !(range::is_live(rc) & range::is_live(sc) & is_same_end(end_of(re), end_of(se)))
 }
 
 // Whether no two of the first `count` ends are the same: the pairs in their order, up to the first that is.

@@ -1,11 +1,12 @@
 // The spans of armed descriptors, and whether two of them share a byte.
 use crate::Descriptor;
+use crate::Record;
 ghost use mathlib.Core.Path.{_≡_};
 ghost use mathlib.Core.List.{_++_};
 ghost use Prim.Native.Nat.{_≤_, _+_};
 ghost use lib.ListN.{take, getD, length};
-ghost use Rattle.laws.specs.Lists.{pairs};
-ghost use Rattle.state.specs.Spans.{spanFrom, spansIn, shareByte, apart};
+ghost use Rattle.laws.specs.Lists.{all, pairs};
+ghost use Rattle.state.specs.Spans.{spanFrom, spansIn, spansOf, armedSpans, shareByte, apart};
 
 // The bytes from `base` up to, and not with, `end`.
 pub struct Span {
@@ -76,4 +77,37 @@ pub(crate) fn count_of(d: Descriptor) -> usize
         Descriptor::Unallocated => 0,
         Descriptor::Armed { .. } => 1,
     }
+}
+
+// Whether a span shares no byte with a descriptor's.
+fn is_clear_of(span: Span, d: Descriptor) -> bool
+    ensures { λ r. ⌜ r ≡ all (apart span) (spansIn d) ⌝ }
+{
+    match d {
+        Descriptor::Unallocated => true,
+        Descriptor::Armed { base, length, .. } => !share_byte(span, span_from(base, length)),
+    }
+}
+
+fn is_clear_of_record(span: Span, r: Record) -> bool
+    ensures { λ b. ⌜ b ≡ all (apart span) (spansOf r) ⌝ }
+{
+    let first = r.first;
+    let second = r.second;
+    is_clear_of(span, first) & is_clear_of(span, second)
+}
+
+// Whether a span shares no byte with an armed span of the records.
+pub fn is_clear(span: Span, records: [Record; 16]) -> bool
+    ensures { λ b. ⌜ b ≡ all (apart span) (armedSpans records) ⌝ }
+{
+    let mut i: usize = 0;
+    while i < 16 {
+        let r = records[i];
+        if !is_clear_of_record(span, r) {
+            return false;
+        }
+        i += 1;
+    }
+    true
 }

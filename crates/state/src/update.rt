@@ -1,15 +1,18 @@
 // The updates of `specs/Update.antt`: with it, the one place that lists the fields of a record.
 use crate::Condition;
+use crate::Core;
 use crate::Descriptor;
 use crate::Endpoint;
 use crate::Kind;
 use crate::Record;
 use crate::RecordEvents;
+use crate::Speed;
 use crate::SystemEvents;
 use crate::Toggles;
 use crate::Transfer;
+use crate::Wait;
 ghost use mathlib.Core.Path.{_≡_};
-ghost use Rattle.state.specs.Update.{noEvents, noSystemEvents, data0, fresh, offRecord, withCondition, withEvents, withToggles, withBuffers, bufferOf, withBuffer, withReset};
+ghost use Rattle.state.specs.Update.{noEvents, noSystemEvents, data0, fresh, offRecord, withCondition, withEvents, withToggles, withBuffers, bufferOf, withBuffer, withReset, started, withAddress, withSystemEvents, recordAt, withRecord};
 
 pub fn no_events() -> RecordEvents
     ensures { λ e. ⌜ e ≡ noEvents ⌝ }
@@ -153,4 +156,58 @@ pub fn with_reset(events: SystemEvents) -> SystemEvents
     let mut marked = events;
     marked.bus_reset = true;
     marked
+}
+
+// The record at `i`; above 15 the off record.
+pub fn record_at(core: Core, i: usize) -> Record
+    ensures { λ r. ⌜ r ≡ recordAt core i ⌝ }
+{
+    if i < 16 {
+        return core.records[i];
+    }
+    off_record()
+}
+
+// The core with the record at `i` given anew; there is none above 15.
+pub fn with_record(core: Core, i: usize, r: Record) -> Core
+    ensures { λ c. ⌜ c ≡ withRecord core i r ⌝ }
+{
+    let mut next = core;
+    if i < 16 {
+        next.records[i] = r;
+    }
+    next
+}
+
+pub fn with_system_events(core: Core, events: SystemEvents) -> Core
+    ensures { λ c. ⌜ c ≡ withSystemEvents core events ⌝ }
+{
+    let mut next = core;
+    next.events = events;
+    next
+}
+
+pub fn with_address(core: Core, address: u32) -> Core
+    ensures { λ c. ⌜ c ≡ withAddress core address ⌝ }
+{
+    let mut next = core;
+    next.address = address;
+    next
+}
+
+// The state at the start: address 0, all records off, no wait, no events.
+pub fn started(memory_size: u32, speed: Speed) -> Core
+    ensures { λ c. ⌜ c ≡ started «memory_size» speed ⌝ }
+{
+    let off = off_record();
+    let records = [off; 16];
+    let events = no_system_events();
+    Core {
+        memory_size,
+        address: 0,
+        speed,
+        events,
+        records,
+        wait: Wait::Nothing,
+    }
 }

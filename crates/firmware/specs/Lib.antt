@@ -1,0 +1,4 @@
+pub mod Answers
+pub mod Device
+pub mod Records
+pub mod Buffers
