@@ -1,7 +1,10 @@
--- A conjunction `a && b && ..` holds exactly where each of its parts does. Assumes nothing.
+-- A conjunction `a && b && ..` holds exactly where each of its parts does; the equality of numbers by its test. Assumes nothing.
+use Prim.Native.Nat.{ℕ}
 use mathlib.Core.Path.{_≡_, refl}
 use mathlib.Core.Bool.{Bool, true, false, _&&_, false≢true}
 use mathlib.Core.List.{List, [], _∷_}
+use lib.Dec.{eqb}
+use borrow.Author.Tests.{eqb-true, eqb-false}
 
 -- the conjunction, as it is written: to the left
 abbrev pub conjunction : Bool → List Bool → Bool
@@ -26,3 +29,12 @@ parts a (b ∷ l) e =
 pub joined : (a : Bool) (l : List Bool) → Each (a ∷ l) → conjunction a l ≡ true
 joined a [] p = p .0
 joined a (b ∷ l) p = joined (a && b) l (rw (p .0, p .1 .0), p .1 .1)
+
+-- ---- two numbers are equal, or not
+
+pub decEq : (m n : ℕ) → Dec (m ≡ n)
+decEq m n = pick (eqb m n) refl
+  where
+    pick : (b : Bool) → eqb m n ≡ b → Dec (m ≡ n)
+    pick true e = yes (eqb-true m n e)
+    pick false e = no (eqb-false m n e)

@@ -1,4 +1,6 @@
 -- What `firstOf` answers, exactly: an answer is given where its test holds and no earlier one does. Assumes nothing.
+use Prim.Native.Nat.{ℕ, _<_}
+use native.Mathlib.Omega.{arith}
 use mathlib.Core.Path.{_≡_, refl, ap, _∙_}
 use mathlib.Core.Bool.{Bool, true, false, cond}
 use mathlib.Core.List.{List, [], _∷_}
@@ -23,3 +25,22 @@ module _ {A : Type 0} where
   first [] last v e = e
   first (t ∷ ts) last v (inl h) = ap (λ (b : Bool). cond b (t .1) (firstOf ts last)) (h .0) ∙ h .1
   first (t ∷ ts) last v (inr h) = ap (λ (b : Bool). cond b (t .1) (firstOf ts last)) (h .0) ∙ first ts last v (h .1)
+
+-- ---- answers that are numbers, and 0 the last: it is given where no test holds
+
+abbrev pub Passed : List (Bool × ℕ) → Type 0
+Passed [] = Unit {0}
+Passed (t ∷ ts) = (t .0 ≡ false) × Passed ts
+
+-- no test answers 0
+abbrev pub Numbered : List (Bool × ℕ) → Type 0
+Numbered [] = Unit {0}
+Numbered (t ∷ ts) = (0 < t .1) × Numbered ts
+
+pub passed : (ts : List (Bool × ℕ)) → Numbered ts → firstOf ts 0 ≡ 0 → Passed ts
+passed [] n e = tt
+passed (t ∷ ts) n e = pick (given (t ∷ ts) 0 0 e) (passed ts (n .1))
+  where
+    pick : Given (t ∷ ts) 0 0 → (firstOf ts 0 ≡ 0 → Passed ts) → Passed (t ∷ ts)
+    pick (inl h) later = absurd (omega (arith, n .0, h .1))
+    pick (inr h) later = (h .0, later (first ts 0 0 (h .1)))

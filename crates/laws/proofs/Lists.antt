@@ -6,7 +6,7 @@ use native.Mathlib.Decide.{decLe}
 use native.Mathlib.Numerals.{add-one}
 use mathlib.Core.Path.{_≡_, refl, sym, _∙_}
 use mathlib.Core.Bool.{Bool, true, false, _&&_, and-assoc}
-use mathlib.Core.List.{List, [], _∷_, _++_, map}
+use mathlib.Core.List.{List, [], _∷_, _++_, map, append-assoc}
 use lib.ListN.{length, getD, take, drop, drop-of-length-le, length-map}
 use lib.Seq.{drop-cons, length-take-le, getD-take}
 use Rattle.laws.proofs.Bools.{parts}
@@ -111,6 +111,11 @@ module _ {A B : Type 0} (f : A → List B) (d : A) (l : List A) (i : ℕ) where
 
   pub gather-end : length l ≤ i → gather f (drop i l) ≡ []
   gather-end h = rw (drop-of-length-le l h)
+
+module _ {A B : Type 0} (f : A → List B) where
+  pub gather-append : (k l : List A) → gather f (k ++ l) ≡ gather f k ++ gather f l
+  gather-append [] l = refl
+  gather-append (x ∷ k) l = rw (gather-append k l) (sym (append-assoc (f x) (gather f k) (gather f l)))
 
 module _ {A : Type 0} (f : A → Bool) where
   pub all-append : (k l : List A) → all f (k ++ l) ≡ (all f k && all f l)

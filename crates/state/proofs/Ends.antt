@@ -1,11 +1,12 @@
 -- The ends that live records serve are different exactly where the records can stand beside each other. Assumes nothing.
-use mathlib.Core.Path.{_≡_, refl, sym, _∙_}
-use mathlib.Core.Bool.{Bool, true, false, not, _&&_, _||_, cond}
+use mathlib.Core.Path.{_≡_, refl}
+use mathlib.Core.Bool.{Bool, true, false, not, _&&_, cond}
 use mathlib.Core.List.{List, [], _∷_}
-use Rattle.laws.specs.Lists.{all, pairs, gather}
+use Rattle.laws.specs.Lists.{all, pairs}
 use Rattle.laws.proofs.Lists.{all-gather, all-same}
 use Rattle.state.specs.declared.Record.{Record}
 use Rattle.state.specs.declared.served.End.{End}
+use Rattle.state.specs.Update.{offRecord}
 use Rattle.state.specs.Ranges.{live}
 use Rattle.state.specs.Served.{endOf, endsOf, ends, sameEnd, elsewhere, beside}
 
@@ -32,6 +33,10 @@ off-beside r s h = rw h
 all-true : {A : Type 0} (f : A → Bool) → ((x : A) → f x ≡ true) → (l : List A) → all f l ≡ true
 all-true f h [] = refl
 all-true f h (x ∷ l) = rw (h x, all-true f h l)
+
+-- an off record stands beside any
+pub off-beside-all : (l : List Record) → all (beside offRecord) l ≡ true
+off-beside-all l = all-true (beside offRecord) (λ s. off-beside offRecord s refl) l
 
 pub ends-beside : (l : List Record) → pairs elsewhere (ends l) ≡ pairs beside l
 ends-beside [] = refl

@@ -1,4 +1,5 @@
 pub mod Ends
+pub mod Kept
 pub mod Sharing
 pub mod Survey
 pub mod Tested

@@ -2,10 +2,10 @@
 use Prim.Native.Nat.{ℕ, _+_, _<_, _≤_}
 use native.Mathlib.Omega.{arith}
 use mathlib.Core.Path.{_≡_, refl, sym, ap, _∙_}
-use mathlib.Core.Bool.{Bool, true, false, not, _&&_, cond}
-use mathlib.Core.List.{List, [], _∷_, _++_, append-nil, append-assoc}
+use mathlib.Core.Bool.{true, false}
+use mathlib.Core.List.{List, [], _++_, append-nil, append-assoc}
 use lib.ListN.{length, getD, take, drop, set, length-set, replicate, length-replicate}
-use Rattle.laws.specs.Lists.{all, pairs, gather}
+use Rattle.laws.specs.Lists.{all, pairs}
 use Rattle.laws.proofs.Lists.{all-turn, all-stop, all-end, gather-turn, gather-end}
 use Rattle.laws.proofs.Filling.{filled, filled-by}
 use Rattle.state.specs.declared.Speed.{Speed}
@@ -16,10 +16,10 @@ use Rattle.state.specs.declared.Core.{Core}
 use Rattle.state.specs.declared.served.End.{End}
 use Rattle.state.specs.declared.spans.Span.{Span}
 use Rattle.state.specs.Update.{offRecord, recordAt}
-use Rattle.state.specs.Ranges.{live, isZero, isArmed, recordFits}
+use Rattle.state.specs.Ranges.{live, recordFits}
 use Rattle.state.specs.Served.{endOf, endsOf, ends, elsewhere, beside}
 use Rattle.state.specs.Spans.{spansIn, spansOf, apart, armedSpans}
-use Rattle.state.proofs.Ends.{noEnd, ends-beside}
+use Rattle.state.proofs.Ends.{ends-beside}
 use Rattle.state.proofs.Sharing.{noSpan}
 use Rattle.state.proofs.Zero.{zero-off}
 

@@ -1,8 +1,8 @@
 -- The test of the sound state says yes exactly when the state is sound: `tested` one way, `passes` the other. Assumes nothing.
-use Prim.Native.Nat.{ℕ, _-_, _<_, _≤_, min}
+use Prim.Native.Nat.{ℕ, _-_, _<_}
 use native.Mathlib.Omega.{arith}
 use mathlib.Core.Path.{_≡_, refl, sym, _∙_, ap}
-use mathlib.Core.Bool.{Bool, true, false, not, _&&_, _||_, cond, Bool·beq, false≢true}
+use mathlib.Core.Bool.{Bool, true, false, not, cond, Bool·beq, false≢true}
 use mathlib.Core.List.{List, [], _∷_}
 use lib.Dec.{leb, eqb}
 use lib.ListN.{length}
@@ -21,7 +21,7 @@ use Rattle.state.specs.declared.Wait.{Wait}
 use Rattle.state.specs.declared.Wait.the-variants.{Nothing, Data, Acknowledge}
 use Rattle.state.specs.declared.Core.{Core}
 use Rattle.state.specs.Update.{offRecord, bufferOf, recordAt}
-use Rattle.state.specs.Ranges.{live, outSide, misplaced, markFits, endpointFits, togglesFit, DescriptorSound, ArmedSound, descriptorFits, LiveSound, liveFits, isZero, SoundAs, RecordSound, recordFits}
+use Rattle.state.specs.Ranges.{live, outSide, misplaced, markFits, endpointFits, togglesFit, DescriptorSound, descriptorFits, LiveSound, liveFits, isZero, SoundAs, RecordSound, recordFits}
 use Rattle.state.specs.Served.{servesOut, servesIn, beside}
 use Rattle.state.specs.Spans.{apart, armedSpans}
 use Rattle.state.specs.Sound.{stageFits, sender, sends, DataWait, AcknowledgeWait, WaitSound, waitRecord, dataFits, acknowledgeFits, waitFits, Sound, isSound}

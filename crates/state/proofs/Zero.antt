@@ -1,8 +1,7 @@
 -- A record that passes the test for zeros is the off record. Assumes nothing.
-use Prim.Native.Nat.{ℕ}
 use mathlib.Core.Path.{_≡_, refl}
 use mathlib.Core.Bool.{Bool, true, false, not, _||_, false≢true, true≢false}
-use mathlib.Core.List.{List, [], _∷_}
+use mathlib.Core.List.{[], _∷_}
 use lib.Dec.{eqb}
 use borrow.Author.Tests.{not-true, eqb-true}
 use Rattle.laws.proofs.Bools.{parts}
