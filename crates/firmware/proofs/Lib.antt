@@ -1,1 +1,4 @@
 pub mod KeepsSound
+pub mod Refusals
+pub mod Unique
+pub mod Witness

@@ -6,7 +6,7 @@ use mathlib.Core.Bool.{Bool, true, false, not, and-comm}
 use mathlib.Core.List.{List, _∷_, _++_, append-assoc}
 use lib.Dec.{eqb}
 use lib.ListN.{length, getD, take, drop, set, length-set, replicate, getD-replicate}
-use lib.Seq.{getD-set-same, getD-set-other, set-split, set-getD}
+use lib.Seq.{set-split, set-getD}
 use borrow.Author.Tests.{ne-eqb}
 use Rattle.laws.specs.Lists.{all, pairs}
 use Rattle.laws.proofs.Bools.{decEq}
@@ -28,6 +28,7 @@ use Rattle.state.specs.Spans.{spanFrom, apart, spansIn, spansOf, armedSp
 use Rattle.state.specs.Sound.{DataWait, AcknowledgeWait, WaitSound, Sound}
 use Rattle.state.proofs.Ends.{ends-beside}
 use Rattle.state.proofs.Sharing.{share-comm}
+use Rattle.state.proofs.Updates.{record-given, other-record}
 
 -- ---- both relations go both ways
 
@@ -126,9 +127,6 @@ module _ (core : Core) (w : Sound core) (i : ℕ) (h : i < 16) where
   pub other-served : (q : Record) → all (beside q) (set (core .records) i offRecord) ≡ true → pairs beside (set (core .records) i q) ≡ true
   other-served q e = pairs-set beside beside-comm (core .records) i q offRecord (w .served-once) e
 
-  at-i : (q : Record) → recordAt (withRecord core i q) i ≡ q
-  at-i q = getD-set-same (core .records) i q offRecord at
-
   -- a wait on another record stays; one on this record asks of the new one what it asked of the old
   pub wait-kept : (q : Record) (wait : Wait) → ((stage : Stage) → wait ≡ Data i stage → DataWait (recordAt core i) stage → DataWait q stage) → ((buffer : Bool) (sent : ℕ) → wait ≡ Acknowledge i buffer sent → AcknowledgeWait (recordAt core i) buffer sent → AcknowledgeWait q buffer sent) → WaitSound core wait → WaitSound (withRecord core i q) wait
   wait-kept q Nothing f g s = tt
@@ -136,14 +134,14 @@ module _ (core : Core) (w : Sound core) (i : ℕ) (h : i < 16) where
     where
       pick : Dec (j ≡ i) → WaitSound (withRecord core i q) (Data j stage)
       pick (yes e) =
-          (s .0, subst (λ (k : ℕ). DataWait (recordAt (withRecord core i q) k) stage) (sym e) (subst (λ (t : Record). DataWait t stage) (sym (at-i q)) (f stage (ap (λ (k : ℕ). Data k stage) e) (subst (λ (k : ℕ). DataWait (recordAt core k) stage) e (s .1)))))
-      pick (no n) = (s .0, subst (λ (t : Record). DataWait t stage) (sym (getD-set-other (core .records) i j q offRecord n)) (s .1))
+          (s .0, subst (λ (k : ℕ). DataWait (recordAt (withRecord core i q) k) stage) (sym e) (subst (λ (t : Record). DataWait t stage) (sym (record-given core i q at)) (f stage (ap (λ (k : ℕ). Data k stage) e) (subst (λ (k : ℕ). DataWait (recordAt core k) stage) e (s .1)))))
+      pick (no n) = (s .0, subst (λ (t : Record). DataWait t stage) (sym (other-record core i j q n)) (s .1))
   wait-kept q (Acknowledge j buffer sent) f g s = pick (decEq j i)
     where
       pick : Dec (j ≡ i) → WaitSound (withRecord core i q) (Acknowledge j buffer sent)
       pick (yes e) =
-          (s .0, subst (λ (k : ℕ). AcknowledgeWait (recordAt (withRecord core i q) k) buffer sent) (sym e) (subst (λ (t : Record). AcknowledgeWait t buffer sent) (sym (at-i q)) (g buffer sent (ap (λ (k : ℕ). Acknowledge k buffer sent) e) (subst (λ (k : ℕ). AcknowledgeWait (recordAt core k) buffer sent) e (s .1)))))
-      pick (no n) = (s .0, subst (λ (t : Record). AcknowledgeWait t buffer sent) (sym (getD-set-other (core .records) i j q offRecord n)) (s .1))
+          (s .0, subst (λ (k : ℕ). AcknowledgeWait (recordAt (withRecord core i q) k) buffer sent) (sym e) (subst (λ (t : Record). AcknowledgeWait t buffer sent) (sym (record-given core i q at)) (g buffer sent (ap (λ (k : ℕ). Acknowledge k buffer sent) e) (subst (λ (k : ℕ). AcknowledgeWait (recordAt core k) buffer sent) e (s .1)))))
+      pick (no n) = (s .0, subst (λ (t : Record). AcknowledgeWait t buffer sent) (sym (other-record core i j q n)) (s .1))
 
   -- replacing a record by a sound compatible one keeps the state sound
   pub replaced : (q : Record) → RecordSound (core .«memory_size») (core .speed) q → pairs beside (set (core .records) i q) ≡ true → pairs apart (armedSpans (set (core .records) i q)) ≡ true → WaitSound (withRecord core i q) (core .wait) → Sound (withRecord core i q)
@@ -162,8 +160,8 @@ module _ (core : Core) (w : Sound core) (i : ℕ) (h : i < 16) where
       each k m = pick (decEq k i)
         where
           pick : Dec (k ≡ i) → RecordSound (core .«memory_size») (core .speed) (recordAt (withRecord core i q) k)
-          pick (yes e) = subst (λ (j : ℕ). RecordSound (core .«memory_size») (core .speed) (recordAt (withRecord core i q) j)) (sym e) (subst (RecordSound (core .«memory_size») (core .speed)) (sym (at-i q)) sound)
-          pick (no n) = subst (RecordSound (core .«memory_size») (core .speed)) (sym (getD-set-other (core .records) i k q offRecord n)) (w .each-record k m)
+          pick (yes e) = subst (λ (j : ℕ). RecordSound (core .«memory_size») (core .speed) (recordAt (withRecord core i q) j)) (sym e) (subst (RecordSound (core .«memory_size») (core .speed)) (sym (record-given core i q at)) sound)
+          pick (no n) = subst (RecordSound (core .«memory_size») (core .speed)) (sym (other-record core i k q n)) (w .each-record k m)
 
 -- ---- all records off
 
