@@ -33,11 +33,8 @@ fn done_of(d: Descriptor) -> u32
 fn shares_byte(core: Core, index: usize, second: bool, base: u32, length: u32) -> bool
     ensures { λ b. ⌜ b ≡ sharesByte core index second base length ⌝ }
 {
-    let vacant = update::with_buffer(
-        update::record_at(core, index),
-        second,
-        Descriptor::Unallocated,
-    );
+    let r = update::record_at(core, index);
+    let vacant = update::with_buffer(r, second, Descriptor::Unallocated);
     let others = update::with_record(core, index, vacant);
     let records = others.records;
     !spans::is_clear(spans::span_from(base, length), records)
