@@ -1,10 +1,10 @@
 -- A conjunction `a && b && ..` holds exactly where each of its parts does; the equality of numbers by its test. Assumes nothing.
 use Prim.Native.Nat.{ℕ}
-use mathlib.Core.Path.{_≡_, refl}
+use mathlib.Core.Path.{_≡_, refl, sym, _∙_}
 use mathlib.Core.Bool.{Bool, true, false, _&&_, false≢true}
 use mathlib.Core.List.{List, [], _∷_}
 use lib.Dec.{eqb}
-use borrow.Author.Tests.{eqb-true, eqb-false}
+use borrow.Author.Tests.{eqb-true, eqb-false, ne-eqb}
 
 -- the conjunction, as it is written: to the left
 abbrev pub conjunction : Bool → List Bool → Bool
@@ -15,7 +15,7 @@ abbrev pub Each : List Bool → Type 0
 Each [] = Unit {0}
 Each (a ∷ l) = (a ≡ true) × Each l
 
-both : (a b : Bool) → (a && b) ≡ true → (a ≡ true) × (b ≡ true)
+pub both : (a b : Bool) → (a && b) ≡ true → (a ≡ true) × (b ≡ true)
 both true b e = (refl, e)
 both false b e = absurd (false≢true e)
 
@@ -38,3 +38,10 @@ decEq m n = pick (eqb m n) refl
     pick : (b : Bool) → eqb m n ≡ b → Dec (m ≡ n)
     pick true e = yes (eqb-true m n e)
     pick false e = no (eqb-false m n e)
+
+pub eqb-comm : (m n : ℕ) → eqb m n ≡ eqb n m
+eqb-comm m n = pick (decEq m n)
+  where
+    pick : Dec (m ≡ n) → eqb m n ≡ eqb n m
+    pick (yes e) = rw e
+    pick (no h) = ne-eqb m n h ∙ sym (ne-eqb n m (λ e. h (sym e)))

@@ -9,7 +9,7 @@ use mathlib.Core.Bool.{Bool, true, false, _&&_, and-assoc}
 use mathlib.Core.List.{List, [], _∷_, _++_, map, append-assoc}
 use lib.ListN.{length, getD, take, drop, drop-of-length-le, length-map}
 use lib.Seq.{drop-cons, length-take-le, getD-take}
-use Rattle.laws.proofs.Bools.{parts}
+use Rattle.laws.proofs.Bools.{both}
 use Rattle.laws.specs.Lists.{all, pairs, gather, firstMatch}
 
 module _ {A : Type 0} (l : List A) (i : ℕ) (whole : Bool) where
@@ -96,8 +96,12 @@ module _ {A B : Type 0} (f : A → Bool) (hit : ℕ → B) (miss whole : B) (l :
 module _ {A : Type 0} (f : A → Bool) (d : A) where
   pub all-at : (l : List A) (i : ℕ) → i < length l → all f l ≡ true → f (getD l i d) ≡ true
   all-at [] i h e = absurd (omega arith)
-  all-at (x ∷ l) zero h e = parts (f x) (all f l ∷ []) e .0
-  all-at (x ∷ l) (suc i) h e = all-at l i (omega arith) (parts (f x) (all f l ∷ []) e .1 .0)
+  all-at (x ∷ l) zero h e = both (f x) (all f l) e .0
+  all-at (x ∷ l) (suc i) h e = all-at l i (omega arith) (both (f x) (all f l) e .1)
+
+  pub all-true : ((x : A) → f x ≡ true) → (l : List A) → all f l ≡ true
+  all-true h [] = refl
+  all-true h (x ∷ l) = rw (h x, all-true h l)
 
   pub all-from : (l : List A) → ((i : ℕ) → i < length l → f (getD l i d) ≡ true) → all f l ≡ true
   all-from [] h = refl

@@ -3,7 +3,7 @@ use mathlib.Core.Path.{_≡_, refl}
 use mathlib.Core.Bool.{Bool, true, false, not, _&&_, cond}
 use mathlib.Core.List.{List, [], _∷_}
 use Rattle.laws.specs.Lists.{all, pairs}
-use Rattle.laws.proofs.Lists.{all-gather, all-same}
+use Rattle.laws.proofs.Lists.{all-true, all-gather, all-same}
 use Rattle.state.specs.declared.Record.{Record}
 use Rattle.state.specs.declared.served.End.{End}
 use Rattle.state.specs.Update.{offRecord}
@@ -30,13 +30,9 @@ off-beside : (r s : Record) → live (r .condition) ≡ false → beside r s ≡
 unfolding beside
 off-beside r s h = rw h
 
-all-true : {A : Type 0} (f : A → Bool) → ((x : A) → f x ≡ true) → (l : List A) → all f l ≡ true
-all-true f h [] = refl
-all-true f h (x ∷ l) = rw (h x, all-true f h l)
-
 -- an off record stands beside any
 pub off-beside-all : (l : List Record) → all (beside offRecord) l ≡ true
-off-beside-all l = all-true (beside offRecord) (λ s. off-beside offRecord s refl) l
+off-beside-all l = all-true (beside offRecord) offRecord (λ s. off-beside offRecord s refl) l
 
 pub ends-beside : (l : List Record) → pairs elsewhere (ends l) ≡ pairs beside l
 ends-beside [] = refl
@@ -45,4 +41,4 @@ ends-beside (r ∷ l) = pick (ends-beside l) (live (r .condition)) refl
     pick : pairs elsewhere (ends l) ≡ pairs beside l → (b : Bool) → live (r .condition) ≡ b → pairs elsewhere (ends (r ∷ l)) ≡ pairs beside (r ∷ l)
     pick ih true e =
         rw (e, ih, all-gather (elsewhere (endOf (r .endpoint))) endsOf l, all-same (λ s. all (elsewhere (endOf (r .endpoint))) (endsOf s)) (beside r) (λ s. against r s e) l)
-    pick ih false e = rw (e, ih, all-true (beside r) (λ s. off-beside r s e) l)
+    pick ih false e = rw (e, ih, all-true (beside r) offRecord (λ s. off-beside r s e) l)

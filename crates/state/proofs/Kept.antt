@@ -4,12 +4,10 @@ use native.Mathlib.Omega.{arith}
 use mathlib.Core.Path.{_≡_, refl, sym, _∙_, ap, subst}
 use mathlib.Core.Bool.{Bool, true, false, not, and-comm}
 use mathlib.Core.List.{List, _∷_, _++_, append-assoc}
-use lib.Dec.{eqb}
 use lib.ListN.{length, getD, take, drop, set, length-set, replicate, getD-replicate}
 use lib.Seq.{set-split, set-getD}
-use borrow.Author.Tests.{ne-eqb}
 use Rattle.laws.specs.Lists.{all, pairs}
-use Rattle.laws.proofs.Bools.{decEq}
+use Rattle.laws.proofs.Bools.{decEq, eqb-comm}
 use Rattle.laws.proofs.Pairs.{pairs-without, pairs-with, pairs-set, gather-set}
 use Rattle.laws.proofs.Lists.{gather-append}
 use Rattle.state.specs.declared.Descriptor.{Descriptor}
@@ -34,13 +32,6 @@ use Rattle.state.proofs.Updates.{record-given, other-record}
 
 pub apart-comm : (a b : Span) → apart a b ≡ true → apart b a ≡ true
 apart-comm a b e = ap not (share-comm b a) ∙ e
-
-eqb-comm : (m n : ℕ) → eqb m n ≡ eqb n m
-eqb-comm m n = pick (decEq m n)
-  where
-    pick : Dec (m ≡ n) → eqb m n ≡ eqb n m
-    pick (yes e) = rw e
-    pick (no h) = ne-eqb m n h ∙ sym (ne-eqb n m (λ e. h (sym e)))
 
 same-comm : (a b : End) → sameEnd a b ≡ sameEnd b a
 same-comm a b = rw (eqb-comm (a .number) (b .number), and-comm (a .out) (b .out), and-comm (a .into) (b .into))

@@ -220,7 +220,7 @@ fn live_fits(memory: u32, speed: Speed, r: Record) -> bool
 }
 
 // Whether a record by itself is sound.
-pub fn record_fits(memory: u32, speed: Speed, r: Record) -> bool
+pub(crate) fn record_fits(memory: u32, speed: Speed, r: Record) -> bool
     ensures { λ b. ⌜ b ≡ recordFits memory speed r ⌝ }
 {
     let condition = r.condition;

@@ -36,7 +36,7 @@ pub fn serves_in(kind: Kind) -> bool
     }
 }
 
-pub fn end_of(e: Endpoint) -> End
+pub(crate) fn end_of(e: Endpoint) -> End
     ensures { λ r. ⌜ r ≡ endOf e ⌝ }
 {
     let kind = e.kind;
@@ -47,7 +47,7 @@ pub fn end_of(e: Endpoint) -> End
     }
 }
 
-pub fn is_same_end(a: End, b: End) -> bool
+fn is_same_end(a: End, b: End) -> bool
     ensures { λ r. ⌜ r ≡ sameEnd a b ⌝ }
 {
     (a.number == b.number) & (a.out & b.out | a.into & b.into)

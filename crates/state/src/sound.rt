@@ -40,7 +40,7 @@ fn smaller(a: u32, b: u32) -> u32
 }
 
 // Left = length - done; an unsound done above the length leaves nothing.
-pub fn left_of(length: u32, done: u32) -> u32
+fn left_of(length: u32, done: u32) -> u32
     ensures { λ n. ⌜ n ≡ length - done ⌝ }
 {
     if done < length { length - done } else { 0 }

@@ -24,7 +24,7 @@ pub fn span_from(base: u32, length: u32) -> Span
     }
 }
 
-pub fn share_byte(a: Span, b: Span) -> bool
+fn share_byte(a: Span, b: Span) -> bool
     ensures { λ r. ⌜ r ≡ shareByte a b ⌝ }
 {
     if a.end <= b.base {
