@@ -7,7 +7,6 @@ use crate::Stage;
 use crate::Wait;
 use crate::range;
 use crate::served;
-use crate::served::End;
 use crate::spans;
 use crate::spans::Span;
 use crate::update;
@@ -105,11 +104,8 @@ pub fn is_sound(core: Core) -> bool
     if 127 < core.address {
         return false;
     }
-    let mut ends = [End {
-        number: 0,
-        out: false,
-        into: false,
-    }; 16];
+    let none = update::no_endpoint();
+    let mut ends = [none; 16];
     let mut live: usize = 0;
     let mut spans = [Span { base: 0, end: 0 }; 32];
     let mut armed: usize = 0;
@@ -125,7 +121,7 @@ pub fn is_sound(core: Core) -> bool
             let endpoint = r.endpoint;
             let first = r.first;
             let second = r.second;
-            ends[live] = served::end_of(endpoint);
+            ends[live] = endpoint;
             live += 1;
             spans[armed] = spans::span_of(first);
             armed += spans::count_of(first);
