@@ -17,11 +17,11 @@ use Rattle.state.specs.declared.Stage.{Stage}
 use Rattle.state.specs.declared.Wait.{Wait}
 use Rattle.state.specs.declared.Wait.the-variants.{Nothing, Data, Acknowledge}
 use Rattle.state.specs.declared.Core.{Core}
-use Rattle.state.specs.declared.Endpoint.{Endpoint}
+use Rattle.state.specs.declared.served.End.{End}
 use Rattle.state.specs.declared.spans.Span.{Span}
 use Rattle.state.specs.Update.{offRecord, bufferOf, withBuffer, recordAt, withRecord}
 use Rattle.state.specs.Ranges.{live, RecordSound}
-use Rattle.state.specs.Served.{servesOut, servesIn, endsOf, sameEnd, elsewhere, beside}
+use Rattle.state.specs.Served.{servesOut, servesIn, endOf, endsOf, sameEnd, elsewhere, beside}
 use Rattle.state.specs.Spans.{spanFrom, apart, spansIn, spansOf, armedSpans}
 use Rattle.state.specs.Sound.{DataWait, AcknowledgeWait, WaitSound, Sound}
 use Rattle.state.proofs.Ends.{ends-beside}
@@ -33,13 +33,13 @@ use Rattle.state.proofs.Updates.{record-given, other-record}
 pub apart-comm : (a b : Span) → apart a b ≡ true → apart b a ≡ true
 apart-comm a b e = ap not (share-comm b a) ∙ e
 
-same-comm : (a b : Endpoint) → sameEnd a b ≡ sameEnd b a
+same-comm : (a b : End) → sameEnd a b ≡ sameEnd b a
 same-comm a b = rw (eqb-comm (a .number) (b .number), and-comm (servesOut (a .kind)) (servesOut (b .kind)), and-comm (servesIn (a .kind)) (servesIn (b .kind)))
 
 pub beside-comm : (r s : Record) → beside r s ≡ true → beside s r ≡ true
 unfolding beside
 beside-comm r s e =
-    rw (and-comm (live (s .condition)) (live (r .condition)), same-comm (s .endpoint) (r .endpoint)) e
+    rw (and-comm (live (s .condition)) (live (r .condition)), same-comm (endOf (s .endpoint)) (endOf (r .endpoint))) e
 
 -- ---- the armed spans around one buffer
 

@@ -13,18 +13,18 @@ use Rattle.state.specs.declared.Descriptor.{Descriptor}
 use Rattle.state.specs.declared.Descriptor.the-variants.{Unallocated, Armed}
 use Rattle.state.specs.declared.Record.{Record}
 use Rattle.state.specs.declared.Core.{Core}
-use Rattle.state.specs.declared.Endpoint.{Endpoint}
+use Rattle.state.specs.declared.served.End.{End}
 use Rattle.state.specs.declared.spans.Span.{Span}
 use Rattle.state.specs.Update.{offRecord, recordAt}
 use Rattle.state.specs.Ranges.{live, recordFits}
-use Rattle.state.specs.Served.{endsOf, ends, elsewhere, beside}
+use Rattle.state.specs.Served.{endOf, endsOf, ends, elsewhere, beside}
 use Rattle.state.specs.Spans.{spansIn, spansOf, apart, armedSpans}
 use Rattle.state.proofs.Ends.{ends-beside}
 use Rattle.state.proofs.Sharing.{noSpan}
 use Rattle.state.proofs.Zero.{zero-off}
 
 -- after i records: the tests that are left, the ends and the spans in the arrays, and those that are left
-pub record Surveyed (core : Core) (served : List Endpoint) (n : ℕ) (spans : List Span) (m i : ℕ) : Type 0 where
+pub record Surveyed (core : Core) (served : List End) (n : ℕ) (spans : List Span) (m i : ℕ) : Type 0 where
   pub within : i ≤ 16
   pub ends-most : n ≤ i
   pub spans-most : m ≤ i + i
@@ -44,7 +44,7 @@ unfolding recordFits
 idle M speed r off fits = rw (zero-off r off (rw off at fits))
 
 module _ (core : Core) (sixteen : length (core .records) ≡ 16) where
-  pub survey-begin : (e : Endpoint) (s : Span) → Surveyed core (replicate 16 e) 0 (replicate 32 s) 0 0
+  pub survey-begin : (e : End) (s : Span) → Surveyed core (replicate 16 e) 0 (replicate 32 s) 0 0
   survey-begin e s =
       record {
         within = omega arith;
@@ -57,7 +57,7 @@ module _ (core : Core) (sixteen : length (core .records) ≡ 16) where
         gathered-spans = refl;
       }
 
-  module _ (served : List Endpoint) (n : ℕ) (spans : List Span) (m i : ℕ) (w : Surveyed core served n spans m i) where
+  module _ (served : List End) (n : ℕ) (spans : List Span) (m i : ℕ) (w : Surveyed core served n spans m i) where
     module _ (over : 16 ≤ i) where
       end : length (core .records) ≤ i
       end = omega (arith, sixteen)
@@ -107,7 +107,7 @@ module _ (core : Core) (sixteen : length (core .records) ≡ 16) where
               gathered-spans = next-spans ∙ rw (idle (core .«memory_size») (core .speed) (recordAt core i) off fits);
             }
 
-        counted : live (recordAt core i .condition) ≡ true → Surveyed core (set served n (recordAt core i .endpoint)) (n + 1) (set (set spans m (getD (spansIn (recordAt core i .first)) 0 noSpan)) (m + length (spansIn (recordAt core i .first))) (getD (spansIn (recordAt core i .second)) 0 noSpan)) (m + length (spansIn (recordAt core i .first)) + length (spansIn (recordAt core i .second))) (i + 1)
+        counted : live (recordAt core i .condition) ≡ true → Surveyed core (set served n (endOf (recordAt core i .endpoint))) (n + 1) (set (set spans m (getD (spansIn (recordAt core i .first)) 0 noSpan)) (m + length (spansIn (recordAt core i .first))) (getD (spansIn (recordAt core i .second)) 0 noSpan)) (m + length (spansIn (recordAt core i .first)) + length (spansIn (recordAt core i .second))) (i + 1)
         counted on =
             record {
               within = omega arith;
@@ -116,12 +116,12 @@ module _ (core : Core) (sixteen : length (core .records) ≡ 16) where
               ends-long = rw length-set (w .ends-long);
               spans-long = rw (length-set, length-set) (w .spans-long);
               tests = tested;
-              gathered-ends = filled served n (ends (core .records)) _ (omega (arith, w .ends-most, w .ends-long)) (recordAt core i .endpoint) (next-ends ∙ rw on);
+              gathered-ends = filled served n (ends (core .records)) _ (omega (arith, w .ends-most, w .ends-long)) (endOf (recordAt core i .endpoint)) (next-ends ∙ rw on);
               gathered-spans =
                   filled-by (set spans m (getD (spansIn (recordAt core i .first)) 0 noSpan)) (m + length (spansIn (recordAt core i .first))) (armedSpans (core .records)) _ (rw length-set (omega (arith, w .spans-most, w .spans-long, at-most-one (recordAt core i .first)))) noSpan (spansIn (recordAt core i .second)) (at-most-one (recordAt core i .second))
                   (filled-by spans m (armedSpans (core .records)) _ (omega (arith, w .spans-most, w .spans-long)) noSpan (spansIn (recordAt core i .first)) (at-most-one (recordAt core i .first)) (next-spans ∙ rw (append-assoc (spansIn (recordAt core i .first)) (spansIn (recordAt core i .second)) (armedSpans (drop (i + 1) (core .records))))));
             }
 
         -- with what the calls gave
-        pub survey-live : live (recordAt core i .condition) ≡ true → (s₁ s₂ : Span) (c₁ c₂ : ℕ) → s₁ ≡ getD (spansIn (recordAt core i .first)) 0 noSpan → c₁ ≡ length (spansIn (recordAt core i .first)) → s₂ ≡ getD (spansIn (recordAt core i .second)) 0 noSpan → c₂ ≡ length (spansIn (recordAt core i .second)) → Surveyed core (set served n (recordAt core i .endpoint)) (n + 1) (set (set spans m s₁) (m + c₁) s₂) (m + c₁ + c₂) (i + 1)
-        survey-live on s₁ s₂ c₁ c₂ hs₁ hc₁ hs₂ hc₂ = rw (hs₁, hc₁, hs₂, hc₂) (counted on)
+        pub survey-live : live (recordAt core i .condition) ≡ true → (e : End) → e ≡ endOf (recordAt core i .endpoint) → (s₁ s₂ : Span) (c₁ c₂ : ℕ) → s₁ ≡ getD (spansIn (recordAt core i .first)) 0 noSpan → c₁ ≡ length (spansIn (recordAt core i .first)) → s₂ ≡ getD (spansIn (recordAt core i .second)) 0 noSpan → c₂ ≡ length (spansIn (recordAt core i .second)) → Surveyed core (set served n e) (n + 1) (set (set spans m s₁) (m + c₁) s₂) (m + c₁ + c₂) (i + 1)
+        survey-live on e he s₁ s₂ c₁ c₂ hs₁ hc₁ hs₂ hc₂ = rw (he, hs₁, hc₁, hs₂, hc₂) (counted on)

@@ -8,6 +8,7 @@ use Rattle.state.specs.declared.Kind.{Kind}
 use Rattle.state.specs.declared.Kind.the-variants as kind
 use Rattle.state.specs.declared.Endpoint.{Endpoint}
 use Rattle.state.specs.declared.Record.{Record}
+use Rattle.state.specs.declared.served.End.{End}
 use Rattle.state.specs.Ranges.{live}
 
 -- the directions that a kind serves; control serves both
@@ -21,22 +22,25 @@ servesIn kind.Control = true
 servesIn kind.In = true
 servesIn kind.Out = false
 
+abbrev pub endOf : Endpoint → End
+endOf e = record { number = e .number; kind = e .kind }
+
 -- one number in one direction
-abbrev pub sameEnd : Endpoint → Endpoint → Bool
+abbrev pub sameEnd : End → End → Bool
 sameEnd a b =
     eqb (a .number) (b .number)
     && (servesOut (a .kind) && servesOut (b .kind) || servesIn (a .kind) && servesIn (b .kind))
 
 -- two records can stand beside each other: not both are live, or they serve no number in one direction
 unfoldable pub beside : Record → Record → Bool
-beside r s = not (live (r .condition) && live (s .condition) && sameEnd (r .endpoint) (s .endpoint))
+beside r s = not (live (r .condition) && live (s .condition) && sameEnd (endOf (r .endpoint)) (endOf (s .endpoint)))
 
 -- what the live records serve, in their order
-abbrev pub endsOf : Record → List Endpoint
-endsOf r = cond (live (r .condition)) (r .endpoint ∷ []) []
+abbrev pub endsOf : Record → List End
+endsOf r = cond (live (r .condition)) (endOf (r .endpoint) ∷ []) []
 
-abbrev pub ends : List Record → List Endpoint
+abbrev pub ends : List Record → List End
 ends records = gather endsOf records
 
-abbrev pub elsewhere : Endpoint → Endpoint → Bool
+abbrev pub elsewhere : End → End → Bool
 elsewhere a b = not (sameEnd a b)

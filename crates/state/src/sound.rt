@@ -7,6 +7,7 @@ use crate::Stage;
 use crate::Wait;
 use crate::range;
 use crate::served;
+use crate::served::End;
 use crate::spans;
 use crate::spans::Span;
 use crate::update;
@@ -104,7 +105,10 @@ pub fn is_sound(core: Core) -> bool
     if 127 < core.address {
         return false;
     }
-    let none = update::no_endpoint();
+    let none = End {
+        number: 0,
+        kind: Kind::Control,
+    };
     let mut ends = [none; 16];
     let mut live: usize = 0;
     let mut spans = [Span { base: 0, end: 0 }; 32];
@@ -121,7 +125,7 @@ pub fn is_sound(core: Core) -> bool
             let endpoint = r.endpoint;
             let first = r.first;
             let second = r.second;
-            ends[live] = endpoint;
+            ends[live] = served::end_of(endpoint);
             live += 1;
             spans[armed] = spans::span_of(first);
             armed += spans::count_of(first);

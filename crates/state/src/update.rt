@@ -12,7 +12,7 @@ use crate::Toggles;
 use crate::Transfer;
 use crate::Wait;
 ghost use mathlib.Core.Path.{_≡_};
-ghost use Rattle.state.specs.Update.{noEvents, noSystemEvents, data0, noEndpoint, fresh, offRecord, withCondition, withEvents, withToggles, withBuffers, bufferOf, withBuffer, withReset, started, withAddress, withSystemEvents, recordAt, withRecord};
+ghost use Rattle.state.specs.Update.{noEvents, noSystemEvents, data0, fresh, offRecord, withCondition, withEvents, withToggles, withBuffers, bufferOf, withBuffer, withReset, started, withAddress, withSystemEvents, withWait, recordAt, withRecord};
 
 pub fn no_events() -> RecordEvents
     ensures { λ e. ⌜ e ≡ noEvents ⌝ }
@@ -62,21 +62,18 @@ pub fn fresh(condition: Condition, endpoint: Endpoint) -> Record
     }
 }
 
-pub(crate) fn no_endpoint() -> Endpoint
-    ensures { λ e. ⌜ e ≡ noEndpoint ⌝ }
-{
-    Endpoint {
-        kind: Kind::Control,
-        transfer: Transfer::Control,
-        number: 0,
-        maximum: 0,
-    }
-}
-
 pub fn off_record() -> Record
     ensures { λ r. ⌜ r ≡ offRecord ⌝ }
 {
-    fresh(Condition::Off, no_endpoint())
+    fresh(
+        Condition::Off,
+        Endpoint {
+            kind: Kind::Control,
+            transfer: Transfer::Control,
+            number: 0,
+            maximum: 0,
+        },
+    )
 }
 
 pub fn with_condition(r: Record, condition: Condition) -> Record
@@ -212,5 +209,21 @@ pub fn started(memory_size: u32, speed: Speed) -> Core
         events,
         records,
         wait: Wait::Nothing,
+    }
+}
+
+pub fn with_wait(core: Core, wait: Wait) -> Core
+    ensures { λ c. ⌜ c ≡ withWait core wait ⌝ }
+{
+    let speed = core.speed;
+    let events = core.events;
+    let records = core.records;
+    Core {
+        memory_size: core.memory_size,
+        address: core.address,
+        speed,
+        events,
+        records,
+        wait,
     }
 }

@@ -6,6 +6,7 @@ use borrow.Author.Needs.{needs}
 use borrow.Author.Tests.{lt-leb, le-leb, eq-eqb, not-true, not-false}
 use Rattle.laws.proofs.Lists.{length-mapped}
 use Rattle.state.specs.Sound.{isSound}
+use Rattle.state.proofs.Ends.{noEnd}
 use Rattle.state.proofs.Sharing.{noSpan}
 use Rattle.state.proofs.Survey.{Surveyed, survey-begin, survey-stop, survey-off, survey-live, survey-tests, survey-served, survey-apart}
 use Rattle.state.proofs.sound.is_sound.Statement.{statement}
@@ -19,17 +20,14 @@ abbrev μ-loop : tie.MeasureT-loop
 
 returns : tie.Need-returns Inv-loop μ-loop
 unfolding isSound
-returns c = let a = c .before .args .t1 in let s : length (a .records) ≡ 16 = length-mapped _ (a .records) 16 (c .before .good .0 .1 .1 .1 .1 .1 .1 .0 .1 .0 .1) in simp (eq-eqb _ _ s, lt-leb _ _ (c .if1 .taken))
+returns c = let s : length (c .before .args .t1 .records) ≡ 16 = length-mapped _ (c .before .args .t1 .records) 16 (c .before .good .0 .1 .1 .1 .1 .1 .1 .0 .1 .0 .1) in simp (eq-eqb _ _ s, lt-leb _ _ (c .if1 .taken))
 
 returns-2 : tie.Need-returns-2 Inv-loop μ-loop
 unfolding isSound
-returns-2 c = let a = c .before .before .args .t1 in let s : length (a .records) ≡ 16 = length-mapped _ (a .records) 16 (c .before .before .good .0 .1 .1 .1 .1 .1 .1 .0 .1 .0 .1) in simp (eq-eqb _ _ s, le-leb _ _ (c .before .if1 .left), lt-leb _ _ (c .if2 .taken))
-
-no-endpoint-requires : tie.Need-no-endpoint-requires Inv-loop μ-loop
-no-endpoint-requires c κs = search needs
+returns-2 c = let s : length (c .before .before .args .t1 .records) ≡ 16 = length-mapped _ (c .before .before .args .t1 .records) 16 (c .before .before .good .0 .1 .1 .1 .1 .1 .1 .0 .1 .0 .1) in simp (eq-eqb _ _ s, le-leb _ _ (c .before .if1 .left), lt-leb _ _ (c .if2 .taken))
 
 loop-holds : tie.Need-loop-holds Inv-loop μ-loop
-loop-holds c = survey-begin (c .before .before .before .args .t1) (length-mapped _ (c .before .before .before .args .t1 .records) 16 (c .before .before .before .good .0 .1 .1 .1 .1 .1 .1 .0 .1 .0 .1)) (c .no-endpoint .result) noSpan
+loop-holds c = survey-begin (c .before .before .args .t1) (length-mapped _ (c .before .before .args .t1 .records) 16 (c .before .before .good .0 .1 .1 .1 .1 .1 .1 .0 .1 .0 .1)) noEnd noSpan
 
 mul-r : tie.Need-mul-r Inv-loop μ-loop
 mul-r c = search needs
@@ -45,10 +43,13 @@ record-fits-requires c κs = search needs
 
 returns-3 : tie.Need-returns-3 Inv-loop μ-loop
 unfolding isSound
-returns-3 c = let a = c .before .before .before .before .before .before .before .before .args .t1 in let s : length (a .records) ≡ 16 = length-mapped _ (a .records) 16 (c .before .before .before .before .before .before .before .before .good .0 .1 .1 .1 .1 .1 .1 .0 .1 .0 .1) in let l = c .before .before .before .before .loop in simp (eq-eqb _ _ s, le-leb _ _ (c .before .before .before .before .before .before .before .if1 .left), le-leb _ _ (c .before .before .before .before .before .before .if2 .left), survey-stop a s (l .ends) (l .live) (l .spans) (l .armed) (l .i) (l .inv) (c .before .before .before .loop-test .taken) (sym (c .before .record-fits .ensures) ∙ not-true (c .before .record-fits .result) (c .if3 .taken)))
+returns-3 c = let s : length (c .before .before .before .before .before .before .before .args .t1 .records) ≡ 16 = length-mapped _ (c .before .before .before .before .before .before .before .args .t1 .records) 16 (c .before .before .before .before .before .before .before .good .0 .1 .1 .1 .1 .1 .1 .0 .1 .0 .1) in let l = c .before .before .before .before .loop in simp (eq-eqb _ _ s, le-leb _ _ (c .before .before .before .before .before .before .if1 .left), le-leb _ _ (c .before .before .before .before .before .if2 .left), survey-stop (c .before .before .before .before .before .before .before .args .t1) s (l .ends) (l .live) (l .spans) (l .armed) (l .i) (l .inv) (c .before .before .before .loop-test .taken) (sym (c .before .record-fits .ensures) ∙ not-true (c .before .record-fits .result) (c .if3 .taken)))
 
 is-live-requires : tie.Need-is-live-requires Inv-loop μ-loop
 is-live-requires c κs = search needs
+
+end-of-requires : tie.Need-end-of-requires Inv-loop μ-loop
+end-of-requires c κs = search needs
 
 mul-ends : tie.Need-mul-ends Inv-loop μ-loop
 mul-ends c = search needs
@@ -93,34 +94,34 @@ loop-less : tie.Need-loop-less Inv-loop μ-loop
 loop-less c = search needs
 
 loop-again : tie.Need-loop-again Inv-loop μ-loop
-loop-again c = let a = c .before .before .before .before .before .before .before .before .before .before .before .before .before .before .before .args .t1 in let s : length (a .records) ≡ 16 = length-mapped _ (a .records) 16 (c .before .before .before .before .before .before .before .before .before .before .before .before .before .before .before .good .0 .1 .1 .1 .1 .1 .1 .0 .1 .0 .1) in let l = c .before .before .before .before .before .before .before .before .before .before .before .loop in survey-live a s (l .ends) (l .live) (l .spans) (l .armed) (l .i) (l .inv) (c .before .before .before .before .before .before .before .before .before .before .loop-test .taken) (sym (c .before .before .before .before .before .before .before .before .record-fits .ensures) ∙ not-false (c .before .before .before .before .before .before .before .before .record-fits .result) (c .before .before .before .before .before .before .before .if3 .left)) (sym (c .before .before .before .before .before .before .is-live .ensures) ∙ c .before .before .before .before .before .if4 .taken) (c .before .before .before .span-of .result) (c .before .span-of2 .result) (c .before .before .count-of .result) (c .count-of2 .result) (c .before .before .before .span-of .ensures) (c .before .before .count-of .ensures .0) (c .before .span-of2 .ensures) (c .count-of2 .ensures .0)
+loop-again c = let s : length (c .before .before .before .before .before .before .before .before .before .before .before .before .before .before .before .args .t1 .records) ≡ 16 = length-mapped _ (c .before .before .before .before .before .before .before .before .before .before .before .before .before .before .before .args .t1 .records) 16 (c .before .before .before .before .before .before .before .before .before .before .before .before .before .before .before .good .0 .1 .1 .1 .1 .1 .1 .0 .1 .0 .1) in let l = c .before .before .before .before .before .before .before .before .before .before .before .before .loop in survey-live (c .before .before .before .before .before .before .before .before .before .before .before .before .before .before .before .args .t1) s (l .ends) (l .live) (l .spans) (l .armed) (l .i) (l .inv) (c .before .before .before .before .before .before .before .before .before .before .before .loop-test .taken) (sym (c .before .before .before .before .before .before .before .before .before .record-fits .ensures) ∙ not-false (c .before .before .before .before .before .before .before .before .before .record-fits .result) (c .before .before .before .before .before .before .before .before .if3 .left)) (sym (c .before .before .before .before .before .before .before .is-live .ensures) ∙ c .before .before .before .before .before .before .if4 .taken) (c .before .before .before .before .end-of .result) (c .before .before .before .before .end-of .ensures) (c .before .before .before .span-of .result) (c .before .span-of2 .result) (c .before .before .count-of .result) (c .count-of2 .result) (c .before .before .before .span-of .ensures) (c .before .before .count-of .ensures .0) (c .before .span-of2 .ensures) (c .count-of2 .ensures .0)
 
 loop-less-2 : tie.Need-loop-less-2 Inv-loop μ-loop
 loop-less-2 c = search needs
 
 loop-again-2 : tie.Need-loop-again-2 Inv-loop μ-loop
-loop-again-2 c = let a = c .before .before .before .before .before .before .before .before .before .before .args .t1 in let s : length (a .records) ≡ 16 = length-mapped _ (a .records) 16 (c .before .before .before .before .before .before .before .before .before .before .good .0 .1 .1 .1 .1 .1 .1 .0 .1 .0 .1) in let l = c .before .before .before .before .before .before .loop in survey-off a s (l .ends) (l .live) (l .spans) (l .armed) (l .i) (l .inv) (c .before .before .before .before .before .loop-test .taken) (sym (c .before .before .before .record-fits .ensures) ∙ not-false (c .before .before .before .record-fits .result) (c .before .before .if3 .left)) (sym (c .before .is-live .ensures) ∙ c .if4 .left)
+loop-again-2 c = let s : length (c .before .before .before .before .before .before .before .before .before .args .t1 .records) ≡ 16 = length-mapped _ (c .before .before .before .before .before .before .before .before .before .args .t1 .records) 16 (c .before .before .before .before .before .before .before .before .before .good .0 .1 .1 .1 .1 .1 .1 .0 .1 .0 .1) in let l = c .before .before .before .before .before .before .loop in survey-off (c .before .before .before .before .before .before .before .before .before .args .t1) s (l .ends) (l .live) (l .spans) (l .armed) (l .i) (l .inv) (c .before .before .before .before .before .loop-test .taken) (sym (c .before .before .before .record-fits .ensures) ∙ not-false (c .before .before .before .record-fits .result) (c .before .before .if3 .left)) (sym (c .before .is-live .ensures) ∙ c .if4 .left)
 
 are-elsewhere-requires : tie.Need-are-elsewhere-requires Inv-loop μ-loop
 are-elsewhere-requires c κs = search needs
 
 returns-4 : tie.Need-returns-4 Inv-loop μ-loop
 unfolding isSound
-returns-4 c = let a = c .before .before .before .before .before .before .before .args .t1 in let s : length (a .records) ≡ 16 = length-mapped _ (a .records) 16 (c .before .before .before .before .before .before .before .good .0 .1 .1 .1 .1 .1 .1 .0 .1 .0 .1) in let l = c .before .before .before .loop in let o = c .before .before .loop-test .left in simp (eq-eqb _ _ s, le-leb _ _ (c .before .before .before .before .before .before .if1 .left), le-leb _ _ (c .before .before .before .before .before .if2 .left), survey-tests a s (l .ends) (l .live) (l .spans) (l .armed) (l .i) (l .inv) o, survey-served a s (l .ends) (l .live) (l .spans) (l .armed) (l .i) (l .inv) o, ← c .before .are-elsewhere .ensures, not-true (c .before .are-elsewhere .result) (c .if5 .taken))
+returns-4 c = let a = c .before .before .before .before .before .before .args .t1 in let l = c .before .before .before .loop in let s : length (a .records) ≡ 16 = length-mapped _ (a .records) 16 (c .before .before .before .before .before .before .good .0 .1 .1 .1 .1 .1 .1 .0 .1 .0 .1) in let o = c .before .before .loop-test .left in simp (eq-eqb _ _ s, le-leb _ _ (c .before .before .before .before .before .if1 .left), le-leb _ _ (c .before .before .before .before .if2 .left), survey-tests a s (l .ends) (l .live) (l .spans) (l .armed) (l .i) (l .inv) o, survey-served a s (l .ends) (l .live) (l .spans) (l .armed) (l .i) (l .inv) o, ← c .before .are-elsewhere .ensures, not-true (c .before .are-elsewhere .result) (c .if5 .taken))
 
 are-apart-requires : tie.Need-are-apart-requires Inv-loop μ-loop
 are-apart-requires c κs = search needs
 
 returns-5 : tie.Need-returns-5 Inv-loop μ-loop
 unfolding isSound
-returns-5 c = let a = c .before .before .before .before .before .before .before .before .before .args .t1 in let s : length (a .records) ≡ 16 = length-mapped _ (a .records) 16 (c .before .before .before .before .before .before .before .before .before .good .0 .1 .1 .1 .1 .1 .1 .0 .1 .0 .1) in let l = c .before .before .before .before .before .loop in let o = c .before .before .before .before .loop-test .left in simp (eq-eqb _ _ s, le-leb _ _ (c .before .before .before .before .before .before .before .before .if1 .left), le-leb _ _ (c .before .before .before .before .before .before .before .if2 .left), survey-tests a s (l .ends) (l .live) (l .spans) (l .armed) (l .i) (l .inv) o, survey-served a s (l .ends) (l .live) (l .spans) (l .armed) (l .i) (l .inv) o, ← c .before .before .before .are-elsewhere .ensures, not-false (c .before .before .before .are-elsewhere .result) (c .before .before .if5 .left), survey-apart a s (l .ends) (l .live) (l .spans) (l .armed) (l .i) (l .inv) o, ← c .before .are-apart .ensures, not-true (c .before .are-apart .result) (c .if6 .taken))
+returns-5 c = let a = c .before .before .before .before .before .before .before .before .args .t1 in let l = c .before .before .before .before .before .loop in let s : length (a .records) ≡ 16 = length-mapped _ (a .records) 16 (c .before .before .before .before .before .before .before .before .good .0 .1 .1 .1 .1 .1 .1 .0 .1 .0 .1) in let o = c .before .before .before .before .loop-test .left in simp (eq-eqb _ _ s, le-leb _ _ (c .before .before .before .before .before .before .before .if1 .left), le-leb _ _ (c .before .before .before .before .before .before .if2 .left), survey-tests a s (l .ends) (l .live) (l .spans) (l .armed) (l .i) (l .inv) o, survey-served a s (l .ends) (l .live) (l .spans) (l .armed) (l .i) (l .inv) o, ← c .before .before .before .are-elsewhere .ensures, not-false (c .before .before .before .are-elsewhere .result) (c .before .before .if5 .left), survey-apart a s (l .ends) (l .live) (l .spans) (l .armed) (l .i) (l .inv) o, ← c .before .are-apart .ensures, not-true (c .before .are-apart .result) (c .if6 .taken))
 
 wait-record-requires : tie.Need-wait-record-requires Inv-loop μ-loop
 wait-record-requires c κs = search needs
 
 returns-6 : tie.Need-returns-6 Inv-loop μ-loop
 unfolding isSound
-returns-6 c = let a = c .before .before .before .before .before .before .before .before .before .before .before .args .t1 in let s : length (a .records) ≡ 16 = length-mapped _ (a .records) 16 (c .before .before .before .before .before .before .before .before .before .before .before .good .0 .1 .1 .1 .1 .1 .1 .0 .1 .0 .1) in let l = c .before .before .before .before .before .before .before .loop in let o = c .before .before .before .before .before .before .loop-test .left in simp (eq-eqb _ _ s, le-leb _ _ (c .before .before .before .before .before .before .before .before .before .before .if1 .left), le-leb _ _ (c .before .before .before .before .before .before .before .before .before .if2 .left), survey-tests a s (l .ends) (l .live) (l .spans) (l .armed) (l .i) (l .inv) o, survey-served a s (l .ends) (l .live) (l .spans) (l .armed) (l .i) (l .inv) o, ← c .before .before .before .before .before .are-elsewhere .ensures, not-false (c .before .before .before .before .before .are-elsewhere .result) (c .before .before .before .before .if5 .left), survey-apart a s (l .ends) (l .live) (l .spans) (l .armed) (l .i) (l .inv) o, ← c .before .before .before .are-apart .ensures, not-false (c .before .before .before .are-apart .result) (c .before .before .if6 .left), ← c .before .wait-record .ensures, lt-leb _ _ (c .if7 .taken))
+returns-6 c = let a = c .before .before .before .before .before .before .before .before .before .before .args .t1 in let l = c .before .before .before .before .before .before .before .loop in let s : length (a .records) ≡ 16 = length-mapped _ (a .records) 16 (c .before .before .before .before .before .before .before .before .before .before .good .0 .1 .1 .1 .1 .1 .1 .0 .1 .0 .1) in let o = c .before .before .before .before .before .before .loop-test .left in simp (eq-eqb _ _ s, le-leb _ _ (c .before .before .before .before .before .before .before .before .before .if1 .left), le-leb _ _ (c .before .before .before .before .before .before .before .before .if2 .left), survey-tests a s (l .ends) (l .live) (l .spans) (l .armed) (l .i) (l .inv) o, survey-served a s (l .ends) (l .live) (l .spans) (l .armed) (l .i) (l .inv) o, ← c .before .before .before .before .before .are-elsewhere .ensures, not-false (c .before .before .before .before .before .are-elsewhere .result) (c .before .before .before .before .if5 .left), survey-apart a s (l .ends) (l .live) (l .spans) (l .armed) (l .i) (l .inv) o, ← c .before .before .before .are-apart .ensures, not-false (c .before .before .before .are-apart .result) (c .before .before .if6 .left), ← c .before .wait-record .ensures, lt-leb _ _ (c .if7 .taken))
 
 mul-r-2 : tie.Need-mul-r-2 Inv-loop μ-loop
 mul-r-2 c = search needs
@@ -133,7 +134,7 @@ wait-fits-requires c κs = search needs
 
 returns-7 : tie.Need-returns-7 Inv-loop μ-loop
 unfolding isSound
-returns-7 c = let a = c .before .before .before .before .before .before .before .before .before .before .before .before .before .args .t1 in let s : length (a .records) ≡ 16 = length-mapped _ (a .records) 16 (c .before .before .before .before .before .before .before .before .before .before .before .before .before .good .0 .1 .1 .1 .1 .1 .1 .0 .1 .0 .1) in let l = c .before .before .before .before .before .before .before .before .before .loop in let o = c .before .before .before .before .before .before .before .before .loop-test .left in simp (eq-eqb _ _ s, le-leb _ _ (c .before .before .before .before .before .before .before .before .before .before .before .before .if1 .left), le-leb _ _ (c .before .before .before .before .before .before .before .before .before .before .before .if2 .left), survey-tests a s (l .ends) (l .live) (l .spans) (l .armed) (l .i) (l .inv) o, survey-served a s (l .ends) (l .live) (l .spans) (l .armed) (l .i) (l .inv) o, ← c .before .before .before .before .before .before .before .are-elsewhere .ensures, not-false (c .before .before .before .before .before .before .before .are-elsewhere .result) (c .before .before .before .before .before .before .if5 .left), survey-apart a s (l .ends) (l .live) (l .spans) (l .armed) (l .i) (l .inv) o, ← c .before .before .before .before .before .are-apart .ensures, not-false (c .before .before .before .before .before .are-apart .result) (c .before .before .before .before .if6 .left), ← c .before .before .before .wait-record .ensures, le-leb _ _ (c .before .before .if7 .left), ← c .wait-fits .ensures)
+returns-7 c = let a = c .before .before .before .before .before .before .before .before .before .before .before .before .args .t1 in let l = c .before .before .before .before .before .before .before .before .before .loop in let s : length (a .records) ≡ 16 = length-mapped _ (a .records) 16 (c .before .before .before .before .before .before .before .before .before .before .before .before .good .0 .1 .1 .1 .1 .1 .1 .0 .1 .0 .1) in let o = c .before .before .before .before .before .before .before .before .loop-test .left in simp (eq-eqb _ _ s, le-leb _ _ (c .before .before .before .before .before .before .before .before .before .before .before .if1 .left), le-leb _ _ (c .before .before .before .before .before .before .before .before .before .before .if2 .left), survey-tests a s (l .ends) (l .live) (l .spans) (l .armed) (l .i) (l .inv) o, survey-served a s (l .ends) (l .live) (l .spans) (l .armed) (l .i) (l .inv) o, ← c .before .before .before .before .before .before .before .are-elsewhere .ensures, not-false (c .before .before .before .before .before .before .before .are-elsewhere .result) (c .before .before .before .before .before .before .if5 .left), survey-apart a s (l .ends) (l .live) (l .spans) (l .armed) (l .i) (l .inv) o, ← c .before .before .before .before .before .are-apart .ensures, not-false (c .before .before .before .before .before .are-apart .result) (c .before .before .before .before .if6 .left), ← c .before .before .before .wait-record .ensures, le-leb _ _ (c .before .before .if7 .left), ← c .wait-fits .ensures)
 
 pub is-sound-spec : {M : Type 1} → statement M
 is-sound-spec =
@@ -143,7 +144,6 @@ is-sound-spec =
     μ-loop
     returns
     returns-2
-    no-endpoint-requires
     loop-holds
     mul-r
     element-copy-out-r
@@ -151,6 +151,7 @@ is-sound-spec =
     record-fits-requires
     returns-3
     is-live-requires
+    end-of-requires
     mul-ends
     array-set-from-ends
     add-live
