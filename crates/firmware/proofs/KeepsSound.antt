@@ -9,6 +9,7 @@ use lib.Dec.{ltb, eqb}
 use lib.ListN.{set}
 use borrow.Author.Tests.{ltb-true, ltb-false, lt-ltb, eqb-true, eqb-false, eq-eqb, not-false}
 use Rattle.laws.specs.Lists.{all, pairs}
+use Rattle.laws.proofs.Bools.{neither}
 use Rattle.laws.proofs.First.{passed}
 use Rattle.state.specs.declared.Speed.{Speed}
 use Rattle.state.specs.declared.Speed.the-variants.{Full}
@@ -191,10 +192,11 @@ record-events-sound core i w =
 
 -- ---- configure
 
-neither : (a b c : Bool) → (a || b || c) ≡ false → (a ≡ false) × ((b ≡ false) × (c ≡ false))
-neither true b c e = absurd (true≢false e)
-neither false true c e = absurd (true≢false e)
-neither false false c e = (refl, (refl, e))
+none-of-three : (a b c : Bool) → (a || b || c) ≡ false → (a ≡ false) × ((b ≡ false) × (c ≡ false))
+none-of-three a b c e =
+    let p = neither (a || b) c e in
+    let q = neither a b (p .0) in
+    (q .0, (q .1, p .1))
 
 unarmed : (d : Descriptor) → isArmed d ≡ false → spansIn d ≡ []
 unarmed Unallocated e = refl
@@ -203,7 +205,7 @@ unarmed (Armed base length done used) e = absurd (true≢false e)
 module _ (core : Core) (w : Sound core) (i : ℕ) (h : i < 16) (unused : inUse core i ≡ false) where
   idle : (isArmed (recordAt core i .first) ≡ false) × ((isArmed (recordAt core i .second) ≡ false) × (waitsOn (core .wait) i ≡ false))
   unfolding inUse
-  idle = neither (isArmed (recordAt core i .first)) (isArmed (recordAt core i .second)) (waitsOn (core .wait) i) unused
+  idle = none-of-three (isArmed (recordAt core i .first)) (isArmed (recordAt core i .second)) (waitsOn (core .wait) i) unused
 
   -- an idle record is replaced by one with nothing armed
   put : (q : Record) → RecordSound (core .«memory_size») (core .speed) q → all (beside q) (set (core .records) i offRecord) ≡ true → spansOf q ≡ [] → Sound (withRecord core i q)
@@ -241,7 +243,7 @@ whole-packet : (maximum length : ℕ) → noMultiple length maximum ≡ false �
 whole-packet maximum length e = pick (ltb length maximum) refl
   where
     p : (false ≡ false) × ((eqb length 0 ≡ false) × (not (eqb (length % maximum) 0) ≡ false))
-    p = neither false (eqb length 0) (not (eqb (length % maximum) 0)) e
+    p = none-of-three false (eqb length 0) (not (eqb (length % maximum) 0)) e
 
     pick : (b : Bool) → ltb length maximum ≡ b → b ≡ false
     pick false l = refl
@@ -255,7 +257,7 @@ module _ (M : ℕ) (out : Bool) (maximum base length : ℕ) where
   armed-sound e = record { placed = e; done-within = omega arith; mark = mark out (last out e) }
     where
       last : (out : Bool) → (ltb 131070 base || ltb 16383 length || ltb M (base + length) || out && noMultiple length maximum) ≡ false → (out && noMultiple length maximum) ≡ false
-      last out e = neither (ltb 131070 base || ltb 16383 length) (ltb M (base + length)) (out && noMultiple length maximum) e .1 .1
+      last out e = none-of-three (ltb 131070 base || ltb 16383 length) (ltb M (base + length)) (out && noMultiple length maximum) e .1 .1
 
       some : (n : ℕ) → (ltb 0 (n - 0) || eqb n 0) ≡ true
       some zero = refl

@@ -37,7 +37,7 @@ fn shares_byte(core: Core, index: usize, second: bool, base: u32, length: u32) -
     let vacant = update::with_buffer(r, second, Descriptor::Unallocated);
     let others = update::with_record(core, index, vacant);
     let records = others.records;
-    !spans::is_clear(spans::span_from(base, length), records)
+    !spans::is_clear(base, length, records)
 }
 
 fn arm_refusal(core: Core, index: usize, buffer: u32, base: u32, length: u32) -> u8

@@ -3,7 +3,6 @@ use crate::answer;
 use crate::answer::Outcome;
 use state::Core;
 use state::Speed;
-use state::Wait;
 use state::events;
 use state::sound;
 use state::update;
@@ -59,18 +58,10 @@ fn sound_refusal(core: Core) -> u8
 fn after_reset(core: Core, speed: Speed) -> Core
     ensures { λ c. ⌜ c ≡ afterReset core speed ⌝ }
 {
-    let off = update::off_record();
-    let records = [off; 16];
+    let none = update::started(core.memory_size, speed);
     let old = core.events;
-    let events = update::with_reset(old);
-    Core {
-        memory_size: core.memory_size,
-        address: core.address,
-        speed,
-        events,
-        records,
-        wait: Wait::Nothing,
-    }
+    let marked = update::with_system_events(none, update::with_reset(old));
+    update::with_address(marked, core.address)
 }
 
 pub fn bus_reset(core: Core, speed: Speed) -> Outcome

@@ -1,7 +1,7 @@
 -- A conjunction `a && b && ..` holds exactly where each of its parts does; the equality of numbers by its test. Assumes nothing.
 use Prim.Native.Nat.{ℕ}
 use mathlib.Core.Path.{_≡_, refl, sym, _∙_}
-use mathlib.Core.Bool.{Bool, true, false, _&&_, false≢true}
+use mathlib.Core.Bool.{Bool, true, false, _&&_, _||_, false≢true, true≢false}
 use mathlib.Core.List.{List, [], _∷_}
 use lib.Dec.{eqb}
 use borrow.Author.Tests.{eqb-true, eqb-false, ne-eqb}
@@ -29,6 +29,10 @@ parts a (b ∷ l) e =
 pub joined : (a : Bool) (l : List Bool) → Each (a ∷ l) → conjunction a l ≡ true
 joined a [] p = p .0
 joined a (b ∷ l) p = joined (a && b) l (rw (p .0, p .1 .0), p .1 .1)
+
+pub neither : (a b : Bool) → (a || b) ≡ false → (a ≡ false) × (b ≡ false)
+neither false b e = (refl, e)
+neither true b e = absurd (true≢false e)
 
 -- ---- two numbers are equal, or not
 

@@ -2,9 +2,12 @@
 use Prim.Native.Nat.{ℕ, _+_, _<_, _≤_}
 use native.Mathlib.Omega.{arith}
 use mathlib.Core.Path.{_≡_, refl, sym, ap, _∙_}
-use mathlib.Core.Bool.{true, false}
+use mathlib.Core.Bool.{true, false, Bool, _&&_, _||_}
 use mathlib.Core.List.{List, [], _++_, append-nil, append-assoc}
 use lib.ListN.{length, getD, take, drop, set, length-set, replicate, length-replicate}
+use lib.Dec.{ltb}
+use borrow.Author.Tests.{ltb-false}
+use Rattle.laws.proofs.Bools.{neither}
 use Rattle.laws.specs.Lists.{all, pairs}
 use Rattle.laws.proofs.Lists.{all-turn, all-stop, all-end, gather-turn, gather-end}
 use Rattle.laws.proofs.Filling.{filled, filled-by}
@@ -16,11 +19,12 @@ use Rattle.state.specs.declared.Core.{Core}
 use Rattle.state.specs.declared.served.End.{End}
 use Rattle.state.specs.declared.spans.Span.{Span}
 use Rattle.state.specs.Update.{offRecord, recordAt}
-use Rattle.state.specs.Ranges.{live, recordFits}
+use Rattle.state.specs.Ranges.{live, outSide, noMultiple, misplaced, DescriptorSound, recordFits}
 use Rattle.state.specs.Served.{endOf, endsOf, ends, elsewhere, beside}
-use Rattle.state.specs.Spans.{spansIn, spansOf, apart, armedSpans}
+use Rattle.state.specs.Spans.{Within, spansIn, spansOf, apart, armedSpans}
 use Rattle.state.proofs.Ends.{ends-beside}
 use Rattle.state.proofs.Sharing.{noSpan}
+use Rattle.state.proofs.Tested.{live-sound}
 use Rattle.state.proofs.Zero.{zero-off}
 
 -- after i records: the tests that are left, the ends and the spans in the arrays, and those that are left
@@ -42,6 +46,22 @@ at-most-one (Armed base length done used) = omega arith
 idle : (M : ℕ) (speed : Speed) (r : Record) → live (r .condition) ≡ false → recordFits M speed r ≡ true → spansOf r ≡ []
 unfolding recordFits
 idle M speed r off fits = rw (zero-off r off (rw off at fits))
+
+-- a span of a live record that fits ends within 32 bits
+span-within : (M : ℕ) (out : Bool) (maximum : ℕ) (d : Descriptor) → DescriptorSound M out maximum d → Within d
+unfolding misplaced
+span-within M out maximum Unallocated w = tt
+span-within M out maximum (Armed base length done used) w =
+    let p = neither (ltb 131070 base || ltb 16383 length || ltb M (base + length)) (out && noMultiple length maximum) (w .placed) in
+    let q = neither (ltb 131070 base || ltb 16383 length) (ltb M (base + length)) (p .0) in
+    let r = neither (ltb 131070 base) (ltb 16383 length) (q .0) in
+    omega (arith, ltb-false 131070 base (r .0), ltb-false 16383 length (r .1))
+
+pub both-within : (M : ℕ) (speed : Speed) (r : Record) → live (r .condition) ≡ true → recordFits M speed r ≡ true → Within (r .first) × Within (r .second)
+unfolding recordFits
+both-within M speed r on fits =
+    let w = live-sound M speed r (rw on at fits) in
+    (span-within M (outSide (r .endpoint .kind) false) (r .endpoint .maximum) (r .first) (w .first-sound), span-within M (outSide (r .endpoint .kind) true) (r .endpoint .maximum) (r .second) (w .second-sound))
 
 module _ (core : Core) (sixteen : length (core .records) ≡ 16) where
   pub survey-begin : (e : End) (s : Span) → Surveyed core (replicate 16 e) 0 (replicate 32 s) 0 0

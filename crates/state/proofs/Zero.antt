@@ -1,10 +1,10 @@
 -- A record that passes the test for zeros is the off record. Assumes nothing.
 use mathlib.Core.Path.{_≡_, refl}
-use mathlib.Core.Bool.{Bool, true, false, not, _||_, false≢true, true≢false}
+use mathlib.Core.Bool.{true, false, not, false≢true, true≢false}
 use mathlib.Core.List.{[], _∷_}
 use lib.Dec.{eqb}
 use borrow.Author.Tests.{not-true, eqb-true}
-use Rattle.laws.proofs.Bools.{parts}
+use Rattle.laws.proofs.Bools.{parts, neither}
 use Rattle.state.specs.declared.Condition.{Condition}
 use Rattle.state.specs.declared.Condition.the-variants.{Off, Normal, Halted}
 use Rattle.state.specs.declared.Kind.{Kind}
@@ -36,10 +36,6 @@ control-type transfer.Interrupt e = absurd (false≢true e)
 unallocated : (d : Descriptor) → not (isArmed d) ≡ true → d ≡ Unallocated
 unallocated Unallocated e = refl
 unallocated (Armed base length done used) e = absurd (false≢true e)
-
-neither : (a b : Bool) → (a || b) ≡ false → (a ≡ false) × (b ≡ false)
-neither false b e = (refl, e)
-neither true b e = absurd (true≢false e)
 
 none : (e : RecordEvents) → anyEvent e ≡ false → e ≡ noEvents
 none e h =

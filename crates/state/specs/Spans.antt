@@ -1,5 +1,5 @@
 -- Document 01, "State": the spans of armed descriptors.
-use Prim.Native.Nat.{ℕ, _+_, min, max}
+use Prim.Native.Nat.{ℕ, _+_, _<_, min, max}
 use mathlib.Core.Bool.{Bool, not}
 use mathlib.Core.List.{List, [], _∷_, _++_}
 use lib.Dec.{ltb}
@@ -24,6 +24,11 @@ apart a b = not (shareByte a b)
 abbrev pub spansIn : Descriptor → List Span
 spansIn Unallocated = []
 spansIn (Armed base length done used) = spanFrom base length ∷ []
+
+-- the end of the span fits 32 bits
+abbrev pub Within : Descriptor → Type 0
+Within Unallocated = Unit {0}
+Within (Armed base length done used) = base + length < 4294967296
 
 abbrev pub spansOf : Record → List Span
 spansOf r = spansIn (r .first) ++ spansIn (r .second)

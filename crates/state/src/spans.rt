@@ -2,38 +2,35 @@
 use crate::Descriptor;
 use crate::Record;
 ghost use mathlib.Core.Path.{_≡_};
-ghost use mathlib.Core.List.{_++_};
-ghost use Prim.Native.Nat.{_≤_, _+_};
+ghost use Prim.Native.Nat.{_≤_, min, max};
+ghost use lib.Dec.{ltb};
 ghost use lib.ListN.{take, getD, length};
 ghost use Rattle.laws.specs.Lists.{all, pairs};
-ghost use Rattle.state.specs.Spans.{spanFrom, spansIn, spansOf, armedSpans, shareByte, apart};
+ghost use Rattle.state.specs.Spans.{spanFrom, spansIn, Within, spansOf, armedSpans, shareByte, apart};
 
-// The bytes from `base` up to, and not with, `end`.
-pub struct Span {
-    pub base: u64,
-    pub end: u64,
+// The bytes from `base` up to, and not with, `end`. A sound span's end fits 32 bits.
+pub(crate) struct Span {
+    pub base: u32,
+    pub end: u32,
 }
 
-pub fn span_from(base: u32, length: u32) -> Span
-    ensures { λ r. ⌜ r ≡ spanFrom base length ⌝ }
+// Whether the bytes from `a` up to `a_end` and those from `b` up to `b_end` have one in common.
+fn share(a: u64, a_end: u64, b: u64, b_end: u64) -> bool
+    ensures { λ r. ⌜ r ≡ ltb (max a b) (min «a_end» «b_end») ⌝ }
 {
-    let end = (base as u64) + (length as u64);
-    Span {
-        base: base as u64,
-        end,
+    if a_end <= b {
+        return false;
     }
+    if b_end <= a {
+        return false;
+    }
+    (a < a_end) & (b < b_end)
 }
 
 fn share_byte(a: Span, b: Span) -> bool
     ensures { λ r. ⌜ r ≡ shareByte a b ⌝ }
 {
-    if a.end <= b.base {
-        return false;
-    }
-    if b.end <= a.base {
-        return false;
-    }
-    (a.base < a.end) & (b.base < b.end)
+    share(a.base as u64, a.end as u64, b.base as u64, b.end as u64)
 }
 
 // Whether no two of the first `count` spans share a byte: the pairs in their order, up to the first that does.
@@ -61,11 +58,15 @@ pub(crate) fn are_apart(spans: [Span; 32], count: usize) -> bool
 
 // The span of a descriptor, if there is one, and how many there are.
 pub(crate) fn span_of(d: Descriptor) -> Span
+    requires { ⌜ Within d ⌝ }
     ensures { λ r. ⌜ r ≡ getD (spansIn d) 0 (spanFrom 0 0) ⌝ }
 {
     match d {
         Descriptor::Unallocated => Span { base: 0, end: 0 },
-        Descriptor::Armed { base, length, .. } => span_from(base, length),
+        Descriptor::Armed { base, length, .. } => {
+            let end = base + length;
+            Span { base, end }
+        }
     }
 }
 
@@ -79,32 +80,36 @@ pub(crate) fn count_of(d: Descriptor) -> usize
     }
 }
 
-// Whether a span shares no byte with a descriptor's.
-fn is_clear_of(span: Span, d: Descriptor) -> bool
-    ensures { λ r. ⌜ r ≡ all (apart span) (spansIn d) ⌝ }
+// Whether the span of `count` bytes from `from` shares no byte with a descriptor's. The sums are taken where they cannot wrap.
+fn is_clear_of(from: u32, count: u32, d: Descriptor) -> bool
+    ensures { λ r. ⌜ r ≡ all (apart (spanFrom from count)) (spansIn d) ⌝ }
 {
     match d {
         Descriptor::Unallocated => true,
-        Descriptor::Armed { base, length, .. } => !share_byte(span, span_from(base, length)),
+        Descriptor::Armed { base, length, .. } => {
+            let end = (from as u64) + (count as u64);
+            let other_end = (base as u64) + (length as u64);
+            !share(from as u64, end, base as u64, other_end)
+        }
     }
 }
 
-fn is_clear_of_record(span: Span, r: Record) -> bool
-    ensures { λ b. ⌜ b ≡ all (apart span) (spansOf r) ⌝ }
+fn is_clear_of_record(from: u32, count: u32, r: Record) -> bool
+    ensures { λ b. ⌜ b ≡ all (apart (spanFrom from count)) (spansOf r) ⌝ }
 {
     let first = r.first;
     let second = r.second;
-    is_clear_of(span, first) & is_clear_of(span, second)
+    is_clear_of(from, count, first) & is_clear_of(from, count, second)
 }
 
-// Whether a span shares no byte with an armed span of the records.
-pub fn is_clear(span: Span, records: [Record; 16]) -> bool
-    ensures { λ b. ⌜ b ≡ all (apart span) (armedSpans records) ⌝ }
+// Whether the span of `count` bytes from `from` shares no byte with an armed span of the records.
+pub fn is_clear(from: u32, count: u32, records: [Record; 16]) -> bool
+    ensures { λ b. ⌜ b ≡ all (apart (spanFrom from count)) (armedSpans records) ⌝ }
 {
     let mut i: usize = 0;
     while i < 16 {
         let r = records[i];
-        if !is_clear_of_record(span, r) {
+        if !is_clear_of_record(from, count, r) {
             return false;
         }
         i += 1;

@@ -13,15 +13,12 @@ with-buffer-requires c κs = search needs
 with-record-requires : tie.Need-with-record-requires
 with-record-requires c κs = search needs
 
-span-from-requires : tie.Need-span-from-requires
-span-from-requires c κs = search needs
-
 is-clear-requires : tie.Need-is-clear-requires
 is-clear-requires c κs = search needs
 
 returns : tie.Need-returns
 unfolding sharesByte
-returns c = simp (c .is-clear .ensures, c .before .span-from .ensures, c .before .before .before .with-record .ensures, c .before .before .before .before .with-buffer .ensures, c .before .before .before .before .before .record-at .ensures)
+returns c = simp (c .is-clear .ensures, c .before .before .with-record .ensures, c .before .before .before .with-buffer .ensures, c .before .before .before .before .record-at .ensures)
 
 pub shares-byte-spec : {M : Type 1} → statement M
 shares-byte-spec =
@@ -30,6 +27,5 @@ shares-byte-spec =
     record-at-requires
     with-buffer-requires
     with-record-requires
-    span-from-requires
     is-clear-requires
     returns)

@@ -3,14 +3,27 @@ use borrow.Author.Needs.{needs}
 use Rattle.firmware.proofs.device.after_reset.Statement.{statement}
 use Rattle.firmware.proofs.device.after_reset.Tie as tie
 
-off-record-requires : tie.Need-off-record-requires
-off-record-requires c κs = search needs
+started-requires : tie.Need-started-requires
+started-requires c κs = search needs
 
 with-reset-requires : tie.Need-with-reset-requires
 with-reset-requires c κs = search needs
 
+with-system-events-requires : tie.Need-with-system-events-requires
+with-system-events-requires c κs = search needs
+
+with-address-requires : tie.Need-with-address-requires
+with-address-requires c κs = search needs
+
 returns : tie.Need-returns
-returns c = simp (c .with-reset .ensures, c .before .before .off-record .ensures)
+returns c = simp (c .with-address .ensures, c .before .with-system-events .ensures, c .before .before .with-reset .ensures, c .before .before .before .before .started .ensures)
 
 pub after-reset-spec : {M : Type 1} → statement M
-after-reset-spec = tie.close (tie.spec off-record-requires with-reset-requires returns)
+after-reset-spec =
+    tie.close
+    (tie.spec
+    started-requires
+    with-reset-requires
+    with-system-events-requires
+    with-address-requires
+    returns)

@@ -1,4 +1,6 @@
 -- `state::sound::is_sound` meets its contract: the walk tests every record and gathers every end and span, and the pairs of those are tested after it. Assumes nothing.
+use Rattle.state.proofs.Survey.{both-within}
+use Rattle.state.specs.Update.{recordAt}
 use Prim.Native.Nat.{_-_}
 use mathlib.Core.Path.{_≡_, sym, _∙_}
 use lib.ListN.{length}
@@ -61,7 +63,7 @@ add-live : tie.Need-add-live Inv-loop μ-loop
 add-live c = search needs
 
 span-of-requires : tie.Need-span-of-requires Inv-loop μ-loop
-span-of-requires c κs = search needs
+span-of-requires c κs = let a = c .before .before .before .before .before .before .before .before .before .before .before .args .t1 in both-within (a .«memory_size») (a .speed) (recordAt a (c .before .before .before .before .before .before .before .before .loop .i)) (sym (c .before .before .before .is-live .ensures) ∙ c .before .before .if4 .taken) (sym (c .before .before .before .before .before .record-fits .ensures) ∙ not-false (c .before .before .before .before .before .record-fits .result) (c .before .before .before .before .if3 .left)) .0
 
 mul-spans : tie.Need-mul-spans Inv-loop μ-loop
 mul-spans c = search needs
@@ -76,7 +78,7 @@ add-armed : tie.Need-add-armed Inv-loop μ-loop
 add-armed c = search needs
 
 span-of-requires-2 : tie.Need-span-of-requires-2 Inv-loop μ-loop
-span-of-requires-2 c κs = search needs
+span-of-requires-2 c κs = let a = c .before .before .before .before .before .before .before .before .before .before .before .before .before .args .t1 in both-within (a .«memory_size») (a .speed) (recordAt a (c .before .before .before .before .before .before .before .before .before .before .loop .i)) (sym (c .before .before .before .before .before .is-live .ensures) ∙ c .before .before .before .before .if4 .taken) (sym (c .before .before .before .before .before .before .before .record-fits .ensures) ∙ not-false (c .before .before .before .before .before .before .before .record-fits .result) (c .before .before .before .before .before .before .if3 .left)) .1
 
 mul-spans-2 : tie.Need-mul-spans-2 Inv-loop μ-loop
 mul-spans-2 c = search needs

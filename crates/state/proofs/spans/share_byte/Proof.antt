@@ -1,17 +1,28 @@
--- `state::spans::share_byte` meets its contract: two spans that are not empty share a byte where neither ends before the other begins. Assumes nothing.
-use mathlib.Core.Path.{sym}
-use Rattle.state.proofs.Sharing.{ends-before, begins-behind, not-empty}
+-- `state::spans::share_byte` meets its contract: it is the definition's. Assumes nothing.
+use Rattle.state.specs.Spans.{shareByte}
+use borrow.Author.Needs.{needs}
 use Rattle.state.proofs.spans.share_byte.Statement.{statement}
 use Rattle.state.proofs.spans.share_byte.Tie as tie
 
+cast-share : tie.Need-cast-share
+cast-share c = search needs
+
+cast-share-2 : tie.Need-cast-share-2
+cast-share-2 c = search needs
+
+cast-share-3 : tie.Need-cast-share-3
+cast-share-3 c = search needs
+
+cast-share-4 : tie.Need-cast-share-4
+cast-share-4 c = search needs
+
+share-requires : tie.Need-share-requires
+share-requires c κs = search needs
+
 returns : tie.Need-returns
-returns c = let a = c .before .before .before .args in sym (ends-before (a .a) (a .b) (c .if1 .taken))
-
-returns-2 : tie.Need-returns-2
-returns-2 c = let a = c .before .before .before .before .before .before .args in sym (begins-behind (a .a) (a .b) (c .if2 .taken))
-
-returns-3 : tie.Need-returns-3
-returns-3 c = let a = c .before .before .before .before .before .before .before .before .args in sym (not-empty (a .a) (a .b) (c .before .before .before .before .before .if1 .left) (c .before .before .if2 .left))
+unfolding shareByte
+returns c = simp (c .share .ensures)
 
 pub share-byte-spec : {M : Type 1} → statement M
-share-byte-spec = tie.close (tie.spec returns returns-2 returns-3)
+share-byte-spec =
+    tie.close (tie.spec cast-share cast-share-2 cast-share-3 cast-share-4 share-requires returns)
