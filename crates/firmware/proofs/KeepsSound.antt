@@ -137,9 +137,6 @@ toggles-zero kind.In = refl
 toggles-zero kind.Out = refl
 
 module _ (core : Core) (w : Sound core) (i : ℕ) where
-  r : Record
-  r = recordAt core i
-
   -- a live record with another live condition and toggles that fit
   revived : i < 16 → (c : Condition) → live c ≡ true → live (recordAt core i .condition) ≡ true → (t : Toggles) → togglesFit (recordAt core i .endpoint .kind) t ≡ true → waitsOn (core .wait) i ≡ false → Sound (withRecord core i (withToggles (withCondition (recordAt core i) c) t))
   revived h c lc lr t f v =
