@@ -74,13 +74,14 @@ pub enum Descriptor {
     },
 }
 
-// A mark or a number of a buffer is a bool: false is buffer 0, `first`, and true is buffer 1, `second`.
+// A mark or a number of a buffer is a bool: false is buffer 0, `first`, and true is buffer 1, `second`. Condition and events stand first and
+// together: eight bytes, which the zero test of an off record reads at once.
 pub struct Record {
     pub condition: Condition,
-    pub endpoint: Endpoint,
-    pub next: bool,
     pub events: RecordEvents,
+    pub next: bool,
     pub toggles: Toggles,
+    pub endpoint: Endpoint,
     pub first: Descriptor,
     pub second: Descriptor,
 }
