@@ -1,4 +1,4 @@
--- When two spans share a byte, by the tests that the code makes; and that it goes both ways. Assumes nothing.
+-- When two spans share a byte: by the tests that the code makes, by a byte that is of both, and in either order. Assumes nothing.
 use Prim.Native.Nat.{ℕ, _<_, _≤_, min, max}
 use native.Mathlib.Omega.{arith}
 use native.Mathlib.Nat.{min-comm, max-comm}
@@ -32,3 +32,21 @@ module _ (a m b n : ℕ) where
 pub share-comm : (a b : Span) → shareByte a b ≡ shareByte b a
 unfolding shareByte
 share-comm a b = rw (max-comm (a .base) (b .base), min-comm (a .end) (b .end))
+
+-- ---- a shared byte is a byte of both
+
+pub record ByteOfBoth (a b : Span) (byte : ℕ) : Type 0 where
+  pub in-first : (a .base ≤ byte) × (byte < a .end)
+  pub in-second : (b .base ≤ byte) × (byte < b .end)
+
+module _ (a b : Span) where
+  pub shared-byte : shareByte a b ≡ true → ByteOfBoth a b (max (a .base) (b .base))
+  unfolding shareByte
+  shared-byte e =
+      let h : max (a .base) (b .base) < min (a .end) (b .end) = ltb-true (max (a .base) (b .base)) (min (a .end) (b .end)) e in
+      record { in-first = (omega arith, omega arith); in-second = (omega arith, omega arith) }
+
+  pub byte-shared : (byte : ℕ) → ByteOfBoth a b byte → shareByte a b ≡ true
+  unfolding shareByte
+  byte-shared byte w =
+      lt-ltb (max (a .base) (b .base)) (min (a .end) (b .end)) (omega (arith, w .in-first, w .in-second))

@@ -76,14 +76,13 @@ pub fn off_record() -> Record
     )
 }
 
-pub fn with_condition(r: Record, condition: Condition) -> Record
-    ensures { λ q. ⌜ q ≡ withCondition r condition ⌝ }
+// A record with what cannot be stored to a field given anew.
+fn remade(r: Record, condition: Condition, first: Descriptor, second: Descriptor) -> Record
+    ensures { λ q. ⌜ q ≡ withBuffers (withCondition r condition) first second ⌝ }
 {
     let endpoint = r.endpoint;
     let events = r.events;
     let toggles = r.toggles;
-    let first = r.first;
-    let second = r.second;
     Record {
         condition,
         endpoint,
@@ -93,6 +92,14 @@ pub fn with_condition(r: Record, condition: Condition) -> Record
         first,
         second,
     }
+}
+
+pub fn with_condition(r: Record, condition: Condition) -> Record
+    ensures { λ q. ⌜ q ≡ withCondition r condition ⌝ }
+{
+    let first = r.first;
+    let second = r.second;
+    remade(r, condition, first, second)
 }
 
 pub fn with_events(r: Record, events: RecordEvents) -> Record
@@ -115,18 +122,7 @@ fn with_buffers(r: Record, first: Descriptor, second: Descriptor) -> Record
     ensures { λ q. ⌜ q ≡ withBuffers r first second ⌝ }
 {
     let condition = r.condition;
-    let endpoint = r.endpoint;
-    let events = r.events;
-    let toggles = r.toggles;
-    Record {
-        condition,
-        endpoint,
-        next: r.next,
-        events,
-        toggles,
-        first,
-        second,
-    }
+    remade(r, condition, first, second)
 }
 
 // Buffer 0, or 1 where `second`.
