@@ -3,7 +3,7 @@ use Prim.Native.Nat.{ℕ, zero, suc, _+_, _-_, _%_, _<_}
 use native.Mathlib.Omega.{arith}
 use native.Mathlib.Nat.{mod-eq-of-lt, sub-zero}
 use mathlib.Core.Path.{_≡_, refl, sym, _∙_, ap}
-use mathlib.Core.Bool.{Bool, true, false, not, _&&_, _||_, cond, Bool·beq, false≢true, true≢false}
+use mathlib.Core.Bool.{Bool, true, false, not, _&&_, _||_, cond, Bool·beq, true≢false}
 use mathlib.Core.List.{[], _∷_}
 use lib.Dec.{ltb, eqb}
 use lib.ListN.{set}
@@ -27,16 +27,16 @@ use Rattle.state.specs.declared.Wait.{Wait}
 use Rattle.state.specs.declared.Wait.the-variants.{Nothing, Data, Acknowledge}
 use Rattle.state.specs.declared.Core.{Core}
 use Rattle.state.specs.Update.{noEvents, noSystemEvents, data0, fresh, offRecord, withCondition, withEvents, withToggles, bufferOf, withBuffer, started, withAddress, withSystemEvents, recordAt, withRecord}
-use Rattle.state.specs.Ranges.{live, isArmed, outSide, noMultiple, misplaced, markFits, togglesFit, endpointFits, ArmedSound, DescriptorSound, LiveSound, SoundAs, RecordSound}
+use Rattle.state.specs.Ranges.{live, isArmed, isUnused, outSide, noMultiple, misplaced, markFits, togglesFit, endpointFits, ArmedSound, DescriptorSound, SoundAs, RecordSound}
 use Rattle.state.specs.Served.{beside}
 use Rattle.state.specs.Spans.{spanFrom, apart, spansIn, spansOf, armedSpans}
 use Rattle.state.specs.Sound.{isSound, sends, WaitSound, Sound}
 use Rattle.state.proofs.Ends.{off-beside-all}
-use Rattle.state.proofs.Kept.{emptied-apart, filled-apart, same-apart, same-served, other-served, wait-kept, replaced, all-off}
+use Rattle.state.proofs.Kept.{as-live, from-live, with-buffer-sound, emptied-apart, filled-apart, same-apart, same-served, other-served, wait-kept, replaced, all-off}
 use Rattle.firmware.specs.Answers.{accepted, refused, judged, settled}
 use Rattle.firmware.specs.Device.{startOf, addressTests, setAddressOf, afterReset, busResetOf, systemEventsOf}
 use Rattle.firmware.specs.Records.{waitsOn, inUse, servedElsewhere, indexTests, configureTests, configureOf, haltTests, setHaltOf, clearHaltOf, recordEventsOf}
-use Rattle.firmware.specs.Buffers.{isSecond, isBusy, sharesByte, armTests, armed, armOf, disarmTests, disarmOf}
+use Rattle.firmware.specs.Buffers.{isSecond, sharesByte, armTests, armed, armOf, disarmTests, disarmOf}
 
 -- a call that is not refused gives the state after it, any other the state before it
 settled-sound : (n : ℕ) (before after : Core) (number : ℕ) → Sound before → (n ≡ 0 → Sound after) → Sound (settled n before after number .core)
@@ -104,18 +104,6 @@ system-events-sound core w =
 
 index : (i : ℕ) → ltb 15 i ≡ false → i < 16
 index i e = omega (arith, ltb-false 15 i e)
-
--- a record that is live and sound
-as-live : (c : Condition) (M : ℕ) (speed : Speed) (r : Record) → live c ≡ true → SoundAs c M speed r → LiveSound M speed r
-as-live Off M speed r l w = absurd (false≢true l)
-as-live Normal M speed r l w = w
-as-live Halted M speed r l w = w
-
--- a live record may change its condition between normal and halted
-from-live : (c : Condition) (M : ℕ) (speed : Speed) (r : Record) → live c ≡ true → LiveSound M speed r → SoundAs c M speed r
-from-live Off M speed r l w = absurd (false≢true l)
-from-live Normal M speed r l w = w
-from-live Halted M speed r l w = w
 
 -- where the core does not wait on the record, the wait does not matter
 elsewhere-kept : (core : Core) (w : Sound core) (i : ℕ) (h : i < 16) (q : Record) → waitsOn (core .wait) i ≡ false → WaitSound (withRecord core i q) (core .wait)
@@ -264,25 +252,18 @@ module _ (M : ℕ) (out : Bool) (maximum base length : ℕ) where
       mark true n = rw (sub-zero length, whole-packet maximum length n)
       mark false n = some length
 
--- a live record with one buffer given anew, by the side of that buffer
-with-buffer-sound : (M : ℕ) (speed : Speed) (r : Record) (second : Bool) (d : Descriptor) → LiveSound M speed r → DescriptorSound M (outSide (r .endpoint .kind) second) (r .endpoint .maximum) d → LiveSound M speed (withBuffer r second d)
-with-buffer-sound M speed r false d w s =
-    record { endpoint-fits = w .endpoint-fits; toggles-fit = w .toggles-fit; first-sound = s; second-sound = w .second-sound }
-with-buffer-sound M speed r true d w s =
-    record { endpoint-fits = w .endpoint-fits; toggles-fit = w .toggles-fit; first-sound = w .first-sound; second-sound = s }
-
 -- a buffer that sends is armed and not used
-sends-busy : (maximum sent : ℕ) (d : Descriptor) → sends maximum sent d ≡ true → isBusy d ≡ true
-sends-busy maximum sent Unallocated e = e
-sends-busy maximum sent (Armed base length done true) e = e
-sends-busy maximum sent (Armed base length done false) e = refl
+sends-unused : (maximum sent : ℕ) (d : Descriptor) → sends maximum sent d ≡ true → isUnused d ≡ true
+sends-unused maximum sent Unallocated e = e
+sends-unused maximum sent (Armed base length done true) e = e
+sends-unused maximum sent (Armed base length done false) e = refl
 
 -- so a wait for an acknowledge does not name the buffer that is armed
-sends-kept : (r : Record) (second buffer : Bool) (d : Descriptor) (maximum sent : ℕ) → isBusy (bufferOf r second) ≡ false → sends maximum sent (bufferOf r buffer) ≡ true → sends maximum sent (bufferOf (withBuffer r second d) buffer) ≡ true
-sends-kept r false false d maximum sent n e = absurd (true≢false (sym (sends-busy maximum sent (r .first) e) ∙ n))
+sends-kept : (r : Record) (second buffer : Bool) (d : Descriptor) (maximum sent : ℕ) → isUnused (bufferOf r second) ≡ false → sends maximum sent (bufferOf r buffer) ≡ true → sends maximum sent (bufferOf (withBuffer r second d) buffer) ≡ true
+sends-kept r false false d maximum sent n e = absurd (true≢false (sym (sends-unused maximum sent (r .first) e) ∙ n))
 sends-kept r false true d maximum sent n e = e
 sends-kept r true false d maximum sent n e = e
-sends-kept r true true d maximum sent n e = absurd (true≢false (sym (sends-busy maximum sent (r .second) e) ∙ n))
+sends-kept r true true d maximum sent n e = absurd (true≢false (sym (sends-unused maximum sent (r .second) e) ∙ n))
 
 module _ (core : Core) (w : Sound core) (i : ℕ) (h : i < 16) (l : live (recordAt core i .condition) ≡ true) (second : Bool) where
   -- a live record with one buffer given anew
@@ -294,7 +275,7 @@ module _ (core : Core) (w : Sound core) (i : ℕ) (h : i < 16) (l : live (record
       a
       v
 
-  armed-keeps : (base length : ℕ) → isBusy (bufferOf (recordAt core i) second) ≡ false → misplaced (core .«memory_size») (outSide (recordAt core i .endpoint .kind) second) (recordAt core i .endpoint .maximum) base length ≡ false → sharesByte core i second base length ≡ false → Sound (armed core i second base length)
+  armed-keeps : (base length : ℕ) → isUnused (bufferOf (recordAt core i) second) ≡ false → misplaced (core .«memory_size») (outSide (recordAt core i .endpoint .kind) second) (recordAt core i .endpoint .maximum) base length ≡ false → sharesByte core i second base length ≡ false → Sound (armed core i second base length)
   unfolding sharesByte
   armed-keeps base length n m s =
       buffer-given (Armed base length 0 false)

@@ -1,16 +1,15 @@
 -- The calls on one buffer: arm and disarm.
 use Prim.Native.Nat.{ℕ}
-use mathlib.Core.Bool.{Bool, true, false, not}
+use mathlib.Core.Bool.{Bool, false, not}
 use mathlib.Core.List.{List, [], _∷_}
 use lib.Dec.{ltb, eqb}
 use lib.ListN.{set}
 use Rattle.laws.specs.Lists.{all}
 use Rattle.state.specs.declared.Descriptor.{Descriptor}
 use Rattle.state.specs.declared.Descriptor.the-variants.{Unallocated, Armed}
-use Rattle.state.specs.declared.Record.{Record}
 use Rattle.state.specs.declared.Core.{Core}
 use Rattle.state.specs.Update.{bufferOf, withBuffer, recordAt, withRecord}
-use Rattle.state.specs.Ranges.{live, outSide, misplaced, isArmed}
+use Rattle.state.specs.Ranges.{live, outSide, misplaced, isArmed, isUnused}
 use Rattle.state.specs.Spans.{spanFrom, apart, armedSpans}
 use Rattle.firmware.specs.declared.answer.Outcome.{Outcome}
 use Rattle.firmware.specs.Answers.{judged, settled}
@@ -20,23 +19,18 @@ use Rattle.firmware.specs.Records.{waitsOn, indexTests}
 abbrev pub isSecond : ℕ → Bool
 isSecond buffer = eqb buffer 1
 
--- 10: buffer armed and not used
-abbrev pub isBusy : Descriptor → Bool
-isBusy Unallocated = false
-isBusy (Armed base length done used) = not used
-
 -- 13: the span shares a byte with another armed span, used or not; the old span of the buffer itself is not counted
 unfoldable pub sharesByte : Core → ℕ → Bool → ℕ → ℕ → Bool
 sharesByte core i second base length =
     not (all (apart (spanFrom base length)) (armedSpans (set (core .records) i (withBuffer (recordAt core i) second Unallocated))))
 
--- 8: record off; 9: buffer number above 1; 12 is `misplaced`
+-- 8: record off; 9: buffer number above 1; 10: buffer armed and not used; 12 is `misplaced`
 abbrev pub armTests : Core → ℕ → ℕ → ℕ → ℕ → List (Bool × ℕ)
 armTests core i buffer base length =
     indexTests core i
     ((not (live (recordAt core i .condition)), 8)
     ∷ (ltb 1 buffer, 9)
-    ∷ (isBusy (bufferOf (recordAt core i) (isSecond buffer)), 10)
+    ∷ (isUnused (bufferOf (recordAt core i) (isSecond buffer)), 10)
     ∷ (misplaced (core .«memory_size») (outSide (recordAt core i .endpoint .kind) (isSecond buffer)) (recordAt core i .endpoint .maximum) base length, 12)
     ∷ (sharesByte core i (isSecond buffer) base length, 13)
     ∷ [])

@@ -6,10 +6,11 @@ use lib.Dec.{ltb}
 use lib.ListN.{replicate}
 use Rattle.state.specs.declared.Speed.{Speed}
 use Rattle.state.specs.declared.Speed.the-variants.{Full}
+use Rattle.state.specs.declared.SystemEvent.the-variants.{BusReset}
 use Rattle.state.specs.declared.Wait.the-variants.{Nothing}
 use Rattle.state.specs.declared.Core.{Core}
 use Rattle.state.specs.Events.{systemBits}
-use Rattle.state.specs.Update.{offRecord, noSystemEvents, started, withAddress, withSpeed, withSystemEvents, withReset, withRecords, withWait}
+use Rattle.state.specs.Update.{offRecord, noSystemEvents, started, withAddress, withSpeed, withSystemEvents, signalled, withRecords, withWait}
 use Rattle.state.specs.Sound.{isSound}
 use Rattle.firmware.specs.declared.answer.Outcome.{Outcome}
 use Rattle.firmware.specs.Answers.{judged, settled}
@@ -35,7 +36,7 @@ addressAfterReset core = core .address
 abbrev pub afterReset : Core → Speed → Core
 afterReset core speed =
     withAddress
-    (withWait (withRecords (withSystemEvents (withSpeed core speed) (withReset (core .events))) (replicate 16 offRecord)) Nothing)
+    (withWait (withRecords (withSystemEvents (withSpeed core speed) (signalled (core .events) BusReset)) (replicate 16 offRecord)) Nothing)
     (addressAfterReset core)
 
 abbrev pub soundTests : Core → List (Bool × ℕ)

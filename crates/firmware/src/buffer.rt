@@ -9,17 +9,8 @@ use state::sound;
 use state::spans;
 use state::update;
 ghost use mathlib.Core.Path.{_≡_};
-ghost use Rattle.firmware.specs.Buffers.{isBusy, sharesByte, armTests, armOf, doneOf, disarmTests, disarmOf};
+ghost use Rattle.firmware.specs.Buffers.{sharesByte, armTests, armOf, doneOf, disarmTests, disarmOf};
 ghost use Rattle.firmware.specs.Answers.{judged};
-
-fn is_busy(d: Descriptor) -> bool
-    ensures { λ b. ⌜ b ≡ isBusy d ⌝ }
-{
-    match d {
-        Descriptor::Unallocated => false,
-        Descriptor::Armed { used, .. } => !used,
-    }
-}
 
 fn done_of(d: Descriptor) -> u32
     ensures { λ n. ⌜ n ≡ doneOf d ⌝ }
@@ -60,7 +51,7 @@ fn arm_refusal(core: Core, index: usize, buffer: u32, base: u32, length: u32) ->
     if 1 < buffer {
         return 9;
     }
-    if is_busy(update::buffer_of(r, second)) {
+    if range::is_unused(update::buffer_of(r, second)) {
         return 10;
     }
     if range::is_misplaced(

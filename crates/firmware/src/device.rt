@@ -3,6 +3,7 @@ use crate::answer;
 use crate::answer::Outcome;
 use state::Core;
 use state::Speed;
+use state::SystemEvent;
 use state::events;
 use state::sound;
 use state::update;
@@ -60,7 +61,7 @@ fn after_reset(core: Core, speed: Speed) -> Core
 {
     let none = update::started(core.memory_size, speed);
     let old = core.events;
-    let marked = update::with_system_events(none, update::with_reset(old));
+    let marked = update::with_system_events(none, update::signalled(old, SystemEvent::BusReset));
     update::with_address(marked, core.address)
 }
 

@@ -30,6 +30,11 @@ pub joined : (a : Bool) (l : List Bool) → Each (a ∷ l) → conjunction a l �
 joined a [] p = p .0
 joined a (b ∷ l) p = joined (a && b) l (rw (p .0, p .1 .0), p .1 .1)
 
+-- what follows from either follows from both
+pub either : {P : Type 0} (a b : Bool) → (a ≡ true → P) → (b ≡ true → P) → (a || b) ≡ true → P
+either true b f g e = f refl
+either false b f g e = g e
+
 pub neither : (a b : Bool) → (a || b) ≡ false → (a ≡ false) × (b ≡ false)
 neither false b e = (refl, e)
 neither true b e = absurd (true≢false e)

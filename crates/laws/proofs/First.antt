@@ -26,11 +26,25 @@ module _ {A : Type 0} where
   first (t ∷ ts) last v (inl h) = ap (λ (b : Bool). cond b (t .1) (firstOf ts last)) (h .0) ∙ h .1
   first (t ∷ ts) last v (inr h) = ap (λ (b : Bool). cond b (t .1) (firstOf ts last)) (h .0) ∙ first ts last v (h .1)
 
--- ---- answers that are numbers, and 0 the last: it is given where no test holds
+  -- no test holds
+  abbrev pub Passed : List (Bool × A) → Type 0
+  Passed [] = Unit {0}
+  Passed (t ∷ ts) = (t .0 ≡ false) × Passed ts
 
-abbrev pub Passed : List (Bool × ℕ) → Type 0
-Passed [] = Unit {0}
-Passed (t ∷ ts) = (t .0 ≡ false) × Passed ts
+  -- each answer is right where its test holds
+  abbrev pub Answers : (A → Type 0) → List (Bool × A) → Type 0
+  Answers P [] = Unit {0}
+  Answers P (t ∷ ts) = (t .0 ≡ true → P (t .1)) × Answers P ts
+
+  pub answered : (P : A → Type 0) (ts : List (Bool × A)) (last : A) → Answers P ts → (Passed ts → P last) → P (firstOf ts last)
+  answered P [] last a f = f tt
+  answered P (t ∷ ts) last a f = pick (t .0) refl (answered P ts last (a .1))
+    where
+      pick : (b : Bool) → t .0 ≡ b → ((Passed ts → P last) → P (firstOf ts last)) → P (cond b (t .1) (firstOf ts last))
+      pick true e later = a .0 e
+      pick false e later = later (λ p. f (e, p))
+
+-- ---- answers that are numbers, and 0 the last: it is given where no test holds
 
 -- no test answers 0
 abbrev pub Numbered : List (Bool × ℕ) → Type 0

@@ -4,8 +4,8 @@ use Prim.Native.Nat.{ℕ, zero, suc, _+_, _<_, _≤_}
 use native.Mathlib.Omega.{arith}
 use native.Mathlib.Decide.{decLe}
 use native.Mathlib.Numerals.{add-one}
-use mathlib.Core.Path.{_≡_, refl, sym, _∙_}
-use mathlib.Core.Bool.{Bool, true, false, _&&_, and-assoc}
+use mathlib.Core.Path.{_≡_, refl, sym, _∙_, subst}
+use mathlib.Core.Bool.{Bool, true, false, _&&_, cond, and-assoc}
 use mathlib.Core.List.{List, [], _∷_, _++_, map, append-assoc}
 use lib.ListN.{length, getD, take, drop, drop-of-length-le, length-map}
 use lib.Seq.{drop-cons, length-take-le, getD-take}
@@ -90,6 +90,36 @@ module _ {A B : Type 0} (f : A → Bool) (hit : ℕ → B) (miss whole : B) (l :
 
   pub match-end : length l ≤ i → whole ≡ miss
   match-end h = inv ∙ rw (drop-of-length-le l h)
+
+-- ---- the first match, by its index
+
+pub record FirstAt {A : Type 0} (f : A → Bool) (d : A) (l : List A) (i : ℕ) : Type 0 where
+  pub within : i < length l
+  pub passes : f (getD l i d) ≡ true
+  pub earlier : (j : ℕ) → j < i → f (getD l j d) ≡ false
+
+module _ {A B : Type 0} (f : A → Bool) (hit : ℕ → B) (miss : B) (d : A) (P : B → Type 0) where
+  -- what holds of the hit at the first element that passes, and of the miss where none does, holds of what is found
+  pub matched : (k : ℕ) (l : List A) → ((i : ℕ) → FirstAt f d l i → P (hit (i + k))) → (((j : ℕ) → j < length l → f (getD l j d) ≡ false) → P miss) → P (firstMatch f hit miss k l)
+  matched k [] at none = none (λ j h. absurd (omega arith))
+  matched k (x ∷ l) at none = pick (f x) refl (matched (suc k) l)
+    where
+      pick : (b : Bool) → f x ≡ b → (((i : ℕ) → FirstAt f d l i → P (hit (i + suc k))) → (((j : ℕ) → j < length l → f (getD l j d) ≡ false) → P miss) → P (firstMatch f hit miss (suc k) l)) → P (cond b (hit k) (firstMatch f hit miss (suc k) l))
+      pick true e later = let same : 0 + k ≡ k = omega arith in subst (λ (n : ℕ). P (hit n)) same (at 0 (record { within = omega arith; passes = e; earlier = λ j h. absurd (omega arith) }))
+      pick false e later = later after (λ m. none (passed-over m))
+        where
+          passed-over : ((j : ℕ) → j < length l → f (getD l j d) ≡ false) → (j : ℕ) → j < length (x ∷ l) → f (getD (x ∷ l) j d) ≡ false
+          passed-over m zero h = e
+          passed-over m (suc j) h = m j (omega arith)
+
+          first-later : (i : ℕ) → FirstAt f d l i → (j : ℕ) → j < suc i → f (getD (x ∷ l) j d) ≡ false
+          first-later i p zero h = e
+          first-later i p (suc j) h = p .earlier j (omega arith)
+
+          after : (i : ℕ) → FirstAt f d l i → P (hit (i + suc k))
+          after i p =
+              let same : suc i + k ≡ i + suc k = omega arith in
+              subst (λ (n : ℕ). P (hit n)) same (at (suc i) (record { within = omega (arith, p .within); passes = p .passes; earlier = first-later i p }))
 
 -- ---- each element, by its index
 

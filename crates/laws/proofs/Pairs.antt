@@ -1,12 +1,13 @@
 -- Pairs of a list in which one element is put in, taken out or replaced. Assumes nothing.
-use Prim.Native.Nat.{ℕ, zero, suc}
+use Prim.Native.Nat.{ℕ, zero, suc, _<_}
+use native.Mathlib.Omega.{arith}
 use mathlib.Core.Path.{_≡_, refl, sym, _∙_}
 use mathlib.Core.Bool.{Bool, true}
 use mathlib.Core.List.{List, [], _∷_, _++_}
-use lib.ListN.{getD, set}
+use lib.ListN.{length, getD, set}
 use Rattle.laws.specs.Lists.{all, pairs, gather}
 use Rattle.laws.proofs.Bools.{both}
-use Rattle.laws.proofs.Lists.{all-append}
+use Rattle.laws.proofs.Lists.{all-append, all-at}
 
 module _ {A : Type 0} (f : A → Bool) where
   pub all-without : (k m l : List A) → all f (k ++ (m ++ l)) ≡ true → all f (k ++ l) ≡ true
@@ -55,6 +56,13 @@ module _ {A : Type 0} (f : A → A → Bool) where
         all-set g (z ∷ l) zero x e h = rw (h, both (g z) (all g l) e .1)
         all-set g (z ∷ l) (suc i) x e h =
             let p = both (g z) (all g l) e in rw (p .0, all-set g l i x (p .1) h)
+
+-- an earlier element and a later one
+pub pair-at : {A : Type 0} (f : A → A → Bool) (d : A) (l : List A) (i j : ℕ) → i < j → j < length l → pairs f l ≡ true → f (getD l i d) (getD l j d) ≡ true
+pair-at f d [] i j h k e = absurd (omega arith)
+pair-at f d (x ∷ l) i zero h k e = absurd (omega arith)
+pair-at f d (x ∷ l) zero (suc j) h k e = all-at (f x) d l j (omega arith) (both (all (f x) l) (pairs f l) e .0)
+pair-at f d (x ∷ l) (suc i) (suc j) h k e = pair-at f d l i j (omega arith) (omega arith) (both (all (f x) l) (pairs f l) e .1)
 
 -- an element is replaced by one of which the same is gathered
 pub gather-set : {A B : Type 0} (g : A → List B) (d : A) (l : List A) (i : ℕ) (x : A) → g x ≡ g (getD l i d) → gather g (set l i x) ≡ gather g l

@@ -2,7 +2,7 @@
 use Prim.Native.Nat.{ℕ, suc, _<_, _≤_}
 use native.Mathlib.Omega.{arith}
 use mathlib.Core.Path.{_≡_, refl, sym, _∙_, ap, subst}
-use mathlib.Core.Bool.{Bool, true, false, not, and-comm}
+use mathlib.Core.Bool.{Bool, true, false, not, and-comm, false≢true}
 use mathlib.Core.List.{List, _∷_, _++_, append-assoc}
 use lib.ListN.{length, getD, take, drop, set, length-set, replicate, getD-replicate}
 use lib.Seq.{set-split, set-getD}
@@ -10,6 +10,9 @@ use Rattle.laws.specs.Lists.{all, pairs}
 use Rattle.laws.proofs.Bools.{decEq, eqb-comm}
 use Rattle.laws.proofs.Pairs.{pairs-without, pairs-with, pairs-set, gather-set}
 use Rattle.laws.proofs.Lists.{gather-append}
+use Rattle.state.specs.declared.Speed.{Speed}
+use Rattle.state.specs.declared.Condition.{Condition}
+use Rattle.state.specs.declared.Condition.the-variants.{Off, Normal, Halted}
 use Rattle.state.specs.declared.Descriptor.{Descriptor}
 use Rattle.state.specs.declared.Descriptor.the-variants.{Unallocated, Armed}
 use Rattle.state.specs.declared.Record.{Record}
@@ -20,13 +23,39 @@ use Rattle.state.specs.declared.Core.{Core}
 use Rattle.state.specs.declared.served.End.{End}
 use Rattle.state.specs.declared.spans.Span.{Span}
 use Rattle.state.specs.Update.{offRecord, bufferOf, withBuffer, recordAt, withRecord}
-use Rattle.state.specs.Ranges.{live, RecordSound}
+use Rattle.state.specs.Ranges.{live, outSide, DescriptorSound, LiveSound, SoundAs, RecordSound}
 use Rattle.state.specs.Served.{servesOut, servesIn, endOf, endsOf, sameEnd, elsewhere, beside}
 use Rattle.state.specs.Spans.{spanFrom, apart, spansIn, spansOf, armedSpans}
 use Rattle.state.specs.Sound.{DataWait, AcknowledgeWait, WaitSound, Sound}
 use Rattle.state.proofs.Ends.{ends-beside}
 use Rattle.state.proofs.Sharing.{share-comm}
 use Rattle.state.proofs.Updates.{record-given, other-record}
+
+-- ---- live records
+
+-- a record that is live and sound
+pub as-live : (c : Condition) (M : ℕ) (speed : Speed) (r : Record) → live c ≡ true → SoundAs c M speed r → LiveSound M speed r
+as-live Off M speed r l w = absurd (false≢true l)
+as-live Normal M speed r l w = w
+as-live Halted M speed r l w = w
+
+-- a live record may change its condition between normal and halted
+pub from-live : (c : Condition) (M : ℕ) (speed : Speed) (r : Record) → live c ≡ true → LiveSound M speed r → SoundAs c M speed r
+from-live Off M speed r l w = absurd (false≢true l)
+from-live Normal M speed r l w = w
+from-live Halted M speed r l w = w
+
+-- a live record with one buffer given anew, by the side of that buffer
+pub with-buffer-sound : (M : ℕ) (speed : Speed) (r : Record) (second : Bool) (d : Descriptor) → LiveSound M speed r → DescriptorSound M (outSide (r .endpoint .kind) second) (r .endpoint .maximum) d → LiveSound M speed (withBuffer r second d)
+with-buffer-sound M speed r false d w s =
+    record { endpoint-fits = w .endpoint-fits; toggles-fit = w .toggles-fit; first-sound = s; second-sound = w .second-sound }
+with-buffer-sound M speed r true d w s =
+    record { endpoint-fits = w .endpoint-fits; toggles-fit = w .toggles-fit; first-sound = w .first-sound; second-sound = s }
+
+-- either buffer of a live record is sound, by its side
+pub buffer-sound : (M : ℕ) (speed : Speed) (r : Record) → LiveSound M speed r → (second : Bool) → DescriptorSound M (outSide (r .endpoint .kind) second) (r .endpoint .maximum) (bufferOf r second)
+buffer-sound M speed r w false = w .first-sound
+buffer-sound M speed r w true = w .second-sound
 
 -- ---- both relations go both ways
 

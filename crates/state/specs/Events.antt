@@ -3,6 +3,26 @@ use Prim.Native.Nat.{ℕ, _+_, _^_}
 use mathlib.Core.Bool.{Bool, cond}
 use Rattle.state.specs.declared.RecordEvents.{RecordEvents}
 use Rattle.state.specs.declared.SystemEvents.{SystemEvents}
+use Rattle.state.specs.declared.RecordEvent.{RecordEvent}
+use Rattle.state.specs.declared.RecordEvent.the-variants.{WaitEnded, NotGood, OutOfPlace, FirstUsed, SecondUsed, NotTaken, ShortPacket}
+use Rattle.state.specs.declared.SystemEvent.{SystemEvent}
+use Rattle.state.specs.declared.SystemEvent.the-variants.{BadToken, BadPid, Unserved, BusReset}
+
+-- this paper's number of each event
+abbrev pub bit : RecordEvent → ℕ
+bit WaitEnded = 0
+bit NotGood = 1
+bit OutOfPlace = 2
+bit FirstUsed = 3
+bit SecondUsed = 4
+bit NotTaken = 5
+bit ShortPacket = 6
+
+abbrev pub systemBit : SystemEvent → ℕ
+systemBit BadToken = 20
+systemBit BadPid = 21
+systemBit Unserved = 22
+systemBit BusReset = 28
 
 -- what an event adds to the number that has its bit
 abbrev pub at : ℕ → Bool → ℕ

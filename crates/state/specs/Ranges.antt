@@ -107,6 +107,11 @@ abbrev pub isArmed : Descriptor → Bool
 isArmed Unallocated = false
 isArmed (Armed base length done used) = true
 
+-- armed and unused
+abbrev pub isUnused : Descriptor → Bool
+isUnused Unallocated = false
+isUnused (Armed base length done used) = not used
+
 -- ---- records
 
 -- a live record within the ranges above

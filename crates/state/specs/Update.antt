@@ -1,24 +1,28 @@
 -- Every update of a record and of the core. No other file lists their fields; each update names the one that it gives anew, and
 -- every other is what it was.
 use Prim.Native.Nat.{ℕ}
-use mathlib.Core.Bool.{Bool, true, false, cond}
+use mathlib.Core.Bool.{Bool, false, _||_, cond}
 use mathlib.Core.List.{List}
+use lib.Dec.{eqb}
 use lib.ListN.{getD, set, replicate}
 use Rattle.state.specs.declared.Speed.{Speed}
 use Rattle.state.specs.declared.Condition.{Condition}
-use Rattle.state.specs.declared.Condition.the-variants.{Off, Normal}
+use Rattle.state.specs.declared.Condition.the-variants.{Off}
 use Rattle.state.specs.declared.Kind.the-variants as kind
 use Rattle.state.specs.declared.Transfer.the-variants as transfer
 use Rattle.state.specs.declared.Endpoint.{Endpoint}
 use Rattle.state.specs.declared.Toggles.{Toggles}
 use Rattle.state.specs.declared.RecordEvents.{RecordEvents}
 use Rattle.state.specs.declared.SystemEvents.{SystemEvents}
+use Rattle.state.specs.declared.RecordEvent.{RecordEvent}
+use Rattle.state.specs.declared.SystemEvent.{SystemEvent}
 use Rattle.state.specs.declared.Descriptor.{Descriptor}
 use Rattle.state.specs.declared.Descriptor.the-variants.{Unallocated}
 use Rattle.state.specs.declared.Record.{Record}
 use Rattle.state.specs.declared.Wait.{Wait}
 use Rattle.state.specs.declared.Wait.the-variants.{Nothing}
 use Rattle.state.specs.declared.Core.{Core}
+use Rattle.state.specs.Events.{bit, systemBit}
 
 -- ---- the values at the start
 
@@ -129,6 +133,19 @@ bufferOf r second = cond second (r .second) (r .first)
 abbrev pub withBuffer : Record → Bool → Descriptor → Record
 withBuffer r second d = withBuffers r (cond second (r .first) d) (cond second d (r .second))
 
+-- an event is set: every other is what it was
+abbrev pub noted : RecordEvents → RecordEvent → RecordEvents
+noted e event =
+    record {
+      «wait_ended» = eqb (bit event) 0 || e .«wait_ended»;
+      «not_good» = eqb (bit event) 1 || e .«not_good»;
+      «out_of_place» = eqb (bit event) 2 || e .«out_of_place»;
+      «first_used» = eqb (bit event) 3 || e .«first_used»;
+      «second_used» = eqb (bit event) 4 || e .«second_used»;
+      «not_taken» = eqb (bit event) 5 || e .«not_taken»;
+      «short_packet» = eqb (bit event) 6 || e .«short_packet»;
+    }
+
 -- ---- the core
 
 -- start: address 0, all records off, no wait, no events
@@ -176,10 +193,15 @@ withSystemEvents core events =
       wait = core .wait;
     }
 
--- system event 28
-abbrev pub withReset : SystemEvents → SystemEvents
-withReset e =
-    record { «bad_token» = e .«bad_token»; «bad_pid» = e .«bad_pid»; unserved = e .unserved; «bus_reset» = true }
+-- a system event is set: every other is what it was
+abbrev pub signalled : SystemEvents → SystemEvent → SystemEvents
+signalled e event =
+    record {
+      «bad_token» = eqb (systemBit event) 20 || e .«bad_token»;
+      «bad_pid» = eqb (systemBit event) 21 || e .«bad_pid»;
+      unserved = eqb (systemBit event) 22 || e .unserved;
+      «bus_reset» = eqb (systemBit event) 28 || e .«bus_reset»;
+    }
 
 abbrev pub withRecords : Core → List Record → Core
 withRecords core records =

@@ -1,10 +1,37 @@
 // The event bits as numbers.
+use crate::RecordEvent;
 use crate::RecordEvents;
+use crate::SystemEvent;
 use crate::SystemEvents;
 ghost use mathlib.Core.Path.{_≡_};
 ghost use mathlib.Core.Bool.{cond};
 ghost use Prim.Native.Nat.{_≤_};
-ghost use Rattle.state.specs.Events.{recordBits, systemBits};
+ghost use Rattle.state.specs.Events.{bit, systemBit, recordBits, systemBits};
+
+pub(crate) fn bit(event: RecordEvent) -> u32
+    ensures { λ n. ⌜ n ≡ bit event ⌝ }
+{
+    match event {
+        RecordEvent::WaitEnded => 0,
+        RecordEvent::NotGood => 1,
+        RecordEvent::OutOfPlace => 2,
+        RecordEvent::FirstUsed => 3,
+        RecordEvent::SecondUsed => 4,
+        RecordEvent::NotTaken => 5,
+        RecordEvent::ShortPacket => 6,
+    }
+}
+
+pub(crate) fn system_bit(event: SystemEvent) -> u32
+    ensures { λ n. ⌜ n ≡ systemBit event ⌝ }
+{
+    match event {
+        SystemEvent::BadToken => 20,
+        SystemEvent::BadPid => 21,
+        SystemEvent::Unserved => 22,
+        SystemEvent::BusReset => 28,
+    }
+}
 
 // The weight of an event's bit where the event is set.
 fn weigh(set: bool, weight: u32) -> u32

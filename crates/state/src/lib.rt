@@ -64,6 +64,24 @@ pub struct SystemEvents {
     pub bus_reset: bool,
 }
 
+// The events of a record, by name.
+pub enum RecordEvent {
+    WaitEnded,
+    NotGood,
+    OutOfPlace,
+    FirstUsed,
+    SecondUsed,
+    NotTaken,
+    ShortPacket,
+}
+
+pub enum SystemEvent {
+    BadToken,
+    BadPid,
+    Unserved,
+    BusReset,
+}
+
 pub enum Descriptor {
     Unallocated,
     Armed {

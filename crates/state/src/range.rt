@@ -10,7 +10,7 @@ use crate::Toggles;
 use crate::Transfer;
 ghost use mathlib.Core.Path.{_≡_};
 ghost use mathlib.Core.Bool.{not};
-ghost use Rattle.state.specs.Ranges.{live, isControl, isControlType, smallSize, maximumFits, endpointFits, togglesFit, outSide, noMultiple, misplaced, markFits, descriptorFits, isArmed, liveFits, anyEvent, isZero, recordFits};
+ghost use Rattle.state.specs.Ranges.{live, isControl, isControlType, smallSize, maximumFits, endpointFits, togglesFit, outSide, noMultiple, misplaced, markFits, descriptorFits, isArmed, isUnused, liveFits, anyEvent, isZero, recordFits};
 
 pub fn is_live(condition: Condition) -> bool
     ensures { λ r. ⌜ r ≡ live condition ⌝ }
@@ -168,6 +168,15 @@ pub fn is_armed(d: Descriptor) -> bool
     match d {
         Descriptor::Unallocated => false,
         Descriptor::Armed { .. } => true,
+    }
+}
+
+pub fn is_unused(d: Descriptor) -> bool
+    ensures { λ b. ⌜ b ≡ isUnused d ⌝ }
+{
+    match d {
+        Descriptor::Unallocated => false,
+        Descriptor::Armed { used, .. } => !used,
     }
 }
 

@@ -33,14 +33,14 @@ fn data_fits(r: Record, stage: Stage) -> bool
     range::is_live(condition) & served::serves_out(kind) & stage_fits(stage, kind)
 }
 
-fn smaller(a: u32, b: u32) -> u32
+pub fn smaller(a: u32, b: u32) -> u32
     ensures { λ n. ⌜ n ≡ min a b ⌝ }
 {
     if a < b { a } else { b }
 }
 
 // Left = length - done; an unsound done above the length leaves nothing.
-fn left_of(length: u32, done: u32) -> u32
+pub fn left_of(length: u32, done: u32) -> u32
     ensures { λ n. ⌜ n ≡ length - done ⌝ }
 {
     if done < length { length - done } else { 0 }

@@ -5,14 +5,17 @@ use crate::Descriptor;
 use crate::Endpoint;
 use crate::Kind;
 use crate::Record;
+use crate::RecordEvent;
 use crate::RecordEvents;
 use crate::Speed;
+use crate::SystemEvent;
 use crate::SystemEvents;
 use crate::Toggles;
 use crate::Transfer;
 use crate::Wait;
+use crate::events;
 ghost use mathlib.Core.Path.{_≡_};
-ghost use Rattle.state.specs.Update.{noEvents, noSystemEvents, data0, fresh, offRecord, withCondition, withEvents, withToggles, withBuffers, bufferOf, withBuffer, withReset, started, withAddress, withSystemEvents, withWait, recordAt, withRecord};
+ghost use Rattle.state.specs.Update.{noEvents, noSystemEvents, data0, fresh, offRecord, withCondition, withNext, withEvents, withToggles, withBuffers, bufferOf, withBuffer, noted, signalled, started, withAddress, withSystemEvents, withWait, recordAt, withRecord};
 
 pub fn no_events() -> RecordEvents
     ensures { λ e. ⌜ e ≡ noEvents ⌝ }
@@ -102,6 +105,14 @@ pub fn with_condition(r: Record, condition: Condition) -> Record
     remade(r, condition, first, second)
 }
 
+pub fn with_next(r: Record, next: bool) -> Record
+    ensures { λ q. ⌜ q ≡ withNext r next ⌝ }
+{
+    let mut q = r;
+    q.next = next;
+    q
+}
+
 pub fn with_events(r: Record, events: RecordEvents) -> Record
     ensures { λ q. ⌜ q ≡ withEvents r events ⌝ }
 {
@@ -146,12 +157,31 @@ pub fn with_buffer(r: Record, second: bool, d: Descriptor) -> Record
     }
 }
 
-pub fn with_reset(events: SystemEvents) -> SystemEvents
-    ensures { λ e. ⌜ e ≡ withReset events ⌝ }
+pub fn noted(e: RecordEvents, event: RecordEvent) -> RecordEvents
+    ensures { λ n. ⌜ n ≡ noted e event ⌝ }
 {
-    let mut marked = events;
-    marked.bus_reset = true;
-    marked
+    let set = events::bit(event);
+    RecordEvents {
+        wait_ended: (set == 0) | e.wait_ended,
+        not_good: (set == 1) | e.not_good,
+        out_of_place: (set == 2) | e.out_of_place,
+        first_used: (set == 3) | e.first_used,
+        second_used: (set == 4) | e.second_used,
+        not_taken: (set == 5) | e.not_taken,
+        short_packet: (set == 6) | e.short_packet,
+    }
+}
+
+pub fn signalled(e: SystemEvents, event: SystemEvent) -> SystemEvents
+    ensures { λ n. ⌜ n ≡ signalled e event ⌝ }
+{
+    let set = events::system_bit(event);
+    SystemEvents {
+        bad_token: (set == 20) | e.bad_token,
+        bad_pid: (set == 21) | e.bad_pid,
+        unserved: (set == 22) | e.unserved,
+        bus_reset: (set == 28) | e.bus_reset,
+    }
 }
 
 // The record at `i`; above 15 the off record.

@@ -1,6 +1,6 @@
 // PIDs: what kind of packet a first byte says.
 ghost use mathlib.Core.Path.{_≡_};
-ghost use Rattle.wire.specs.Pid.{kindOf, pidOf};
+ghost use Rattle.wire.specs.Pid.{kindOf, isData, pidOf};
 
 // The sixteen kinds, in the order of their numbers.
 pub enum Kind {
@@ -60,5 +60,29 @@ pub fn read(byte: u8) -> Pid
         Pid::Checked(named(low as u32))
     } else {
         Pid::Failed
+    }
+}
+
+// The data PIDs.
+pub fn is_data(kind: Kind) -> bool
+    ensures { λ r. ⌜ r ≡ isData kind ⌝ }
+{
+    match kind {
+        Kind::Data0 => true,
+        Kind::Data1 => true,
+        Kind::Data2 => true,
+        Kind::Mdata => true,
+        Kind::Reserved => false,
+        Kind::Out => false,
+        Kind::Ack => false,
+        Kind::Ping => false,
+        Kind::Sof => false,
+        Kind::Nyet => false,
+        Kind::Split => false,
+        Kind::In => false,
+        Kind::Nak => false,
+        Kind::Pre => false,
+        Kind::Setup => false,
+        Kind::Stall => false,
     }
 }

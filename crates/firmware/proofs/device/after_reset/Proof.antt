@@ -6,8 +6,8 @@ use Rattle.firmware.proofs.device.after_reset.Tie as tie
 started-requires : tie.Need-started-requires
 started-requires c κs = search needs
 
-with-reset-requires : tie.Need-with-reset-requires
-with-reset-requires c κs = search needs
+signalled-requires : tie.Need-signalled-requires
+signalled-requires c κs = search needs
 
 with-system-events-requires : tie.Need-with-system-events-requires
 with-system-events-requires c κs = search needs
@@ -16,14 +16,14 @@ with-address-requires : tie.Need-with-address-requires
 with-address-requires c κs = search needs
 
 returns : tie.Need-returns
-returns c = simp (c .with-address .ensures, c .before .with-system-events .ensures, c .before .before .with-reset .ensures, c .before .before .before .before .started .ensures)
+returns c = simp (c .with-address .ensures, c .before .with-system-events .ensures, c .before .before .signalled .ensures, c .before .before .before .before .started .ensures)
 
 pub after-reset-spec : {M : Type 1} → statement M
 after-reset-spec =
     tie.close
     (tie.spec
     started-requires
-    with-reset-requires
+    signalled-requires
     with-system-events-requires
     with-address-requires
     returns)

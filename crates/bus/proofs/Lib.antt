@@ -1,0 +1,13 @@
+pub mod Room
+pub mod Pids
+pub mod Laying
+pub mod Descriptors
+pub mod Sizes
+pub mod Moved
+pub mod Serving
+pub mod Finding
+pub mod Cases
+pub mod Steps
+pub mod KeepsSound
+pub mod Within
+pub mod Lent

@@ -1,0 +1,9 @@
+pub mod Turn
+pub mod Active
+pub mod Tokens
+pub mod Search
+pub mod Data
+pub mod Idle
+pub mod Arrival
+pub mod Answers
+pub mod Calls
