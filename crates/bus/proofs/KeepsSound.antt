@@ -185,9 +185,8 @@ module _ (core : Core) (w : Sound core) (i : ℕ) where
 
     data-turn : (s : Stage) → DataWait r s → (x : Verdict) (n : ℕ) → Turned core i (dataTurn (core .speed) s r x n)
     data-turn s d x n =
-        data-by (core .speed) s r n (Turned core i)
-        (record { not-good = noted-turn NotGood; out-of-place = noted-turn OutOfPlace; in-stage = λ toggle. staged-turn s d toggle n })
-        x
+        data-by (core .speed) s r x n (Turned core i)
+        (record { not-good = noted-turn NotGood; out-of-place = noted-turn OutOfPlace; in-stage = λ toggle e. staged-turn s d toggle n })
 
   -- ---- IN, and its acknowledge
 
@@ -263,14 +262,13 @@ module _ (core : Core) (w : Sound core) where
 
   pub no-wait-sound : (p : List ℕ) → Sound (noWait core p .core)
   no-wait-sound p =
-      no-wait-by core (λ (x : Step). Sound (x .core)) w
+      no-wait-by core p (λ (x : Step). Sound (x .core)) w
       (record {
         quiet = w;
         trouble = signalled-sound;
         frame = λ n. w;
-        token = λ a i v. turned-sound i (turnOf a i (recordAt core i)) (v .index) (v .is-live) (turn core w i a v);
+        token = λ a i e v. turned-sound i (turnOf a i (recordAt core i)) (v .index) (v .is-live) (turn core w i a v);
       })
-      p
 
   -- ---- the wait
 
@@ -295,7 +293,7 @@ unfolding dataStep
 packet-step-sound core w p =
     packet-by core p (λ (x : Step). Sound (x .core)) w
     (record {
-      awaited-data = λ i s e x. turned-sound core w i _ (x .0) (x .1 .is-live) (data-turn core w i (awaiting core i s x) s (x .1) (verdictOf p) (length (payloadOf p)));
-      awaited-ack = λ i b n e x. turned-sound core w i _ (x .0) (x .1 .is-live) (acknowledged-turn core w i b n x);
+      awaited-data = λ i s e d x. turned-sound core w i _ (x .0) (x .1 .is-live) (data-turn core w i (awaiting core i s x) s (x .1) (verdictOf p) (length (payloadOf p)));
+      awaited-ack = λ i b n e a x. turned-sound core w i _ (x .0) (x .1 .is-live) (acknowledged-turn core w i b n x);
       idle = λ e. no-wait-sound (timedOut core) (timeout-sound core w) p;
     })

@@ -11,3 +11,10 @@ pub mod Steps
 pub mod KeepsSound
 pub mod Within
 pub mod Lent
+pub mod Alone
+pub mod Stretches
+pub mod Refusals
+pub mod Errors
+pub mod Handshakes
+pub mod Sending
+pub mod Long

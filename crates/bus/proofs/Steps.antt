@@ -82,9 +82,8 @@ module _ (i : ℕ) (r : Record) where
 
 pub idle-stores-nothing : (core : Core) → Sound core → (p : List ℕ) → noWait core p .store ≡ Nowhere
 idle-stores-nothing core w p =
-    no-wait-by core (λ (x : Step). x .store ≡ Nowhere) w
-    (record { quiet = refl; trouble = λ event. refl; frame = λ n. refl; token = λ a i v. token-stores-nothing i (recordAt core i) a })
-    p
+    no-wait-by core p (λ (x : Step). x .store ≡ Nowhere) w
+    (record { quiet = refl; trouble = λ event. refl; frame = λ n. refl; token = λ a i e v. token-stores-nothing i (recordAt core i) a })
 
 -- ---- the turn of what was read
 

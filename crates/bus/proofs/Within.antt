@@ -120,9 +120,8 @@ module _ (core : Core) (w : Sound core) (i : ℕ) where
 
     pub store-within : (x : Stage) → DataWait r x → (y : Verdict) (n : ℕ) → StoreWithin (dataTurn (core .speed) x r y n .store) n M
     store-within x d y n =
-        data-by (core .speed) x r n (λ (t : Turn). StoreWithin (t .store) n M)
-        (record { not-good = tt; out-of-place = tt; in-stage = λ toggle. staged-within x d toggle n })
-        y
+        data-by (core .speed) x r y n (λ (t : Turn). StoreWithin (t .store) n M)
+        (record { not-good = tt; out-of-place = tt; in-stage = λ toggle e. staged-within x d toggle n })
 
     -- ---- a handshake is no data
 
@@ -154,9 +153,8 @@ module _ (core : Core) (w : Sound core) (i : ℕ) where
 
     data-says : (x : Stage) (y : Verdict) (n : ℕ) → SaysWithin (dataTurn (core .speed) x r y n .says) M
     data-says x y n =
-        data-by (core .speed) x r n (λ (t : Turn). SaysWithin (t .says) M)
-        (record { not-good = tt; out-of-place = tt; in-stage = λ toggle. staged-says x toggle n })
-        y
+        data-by (core .speed) x r y n (λ (t : Turn). SaysWithin (t .says) M)
+        (record { not-good = tt; out-of-place = tt; in-stage = λ toggle e. staged-says x toggle n })
 
   pub sent-roomy : (second : Bool) (sent : ℕ) → WaitSound core (wait.Acknowledge i second sent) → Roomy r sent
   sent-roomy second sent x = pick second (x .1 .sent-so-many)
@@ -229,9 +227,8 @@ module _ (core : Core) (w : Sound core) (i : ℕ) where
 
 idle-within : (core : Core) → Sound core → (p : List ℕ) → SaysWithin (noWait core p .says) (core .«memory_size»)
 idle-within core w p =
-    no-wait-by core (λ (x : Step). SaysWithin (x .says) (core .«memory_size»)) w
-    (record { quiet = tt; trouble = λ event. tt; frame = λ n. tt; token = λ a i v. turn-within core w i a v })
-    p
+    no-wait-by core p (λ (x : Step). SaysWithin (x .says) (core .«memory_size»)) w
+    (record { quiet = tt; trouble = λ event. tt; frame = λ n. tt; token = λ a i e v. turn-within core w i a v })
 
 same-memory : (core : Core) → timedOut core .«memory_size» ≡ core .«memory_size»
 unfolding timedOut missed
@@ -247,8 +244,8 @@ unfolding dataStep acknowledged
 says-within core w p =
     packet-by core p (λ (x : Step). SaysWithin (x .says) (core .«memory_size»)) w
     (record {
-      awaited-data = λ i s e x. data-says core w i (awaiting core i s x) s (verdictOf p) (length (payloadOf p));
-      awaited-ack = λ i b n e x. tt;
+      awaited-data = λ i s e d x. data-says core w i (awaiting core i s x) s (verdictOf p) (length (payloadOf p));
+      awaited-ack = λ i b n e a x. tt;
       idle = λ e. subst (SaysWithin (noWait (timedOut core) p .says)) (same-memory core) (idle-within (timedOut core) (timeout-sound core w) p);
     })
 

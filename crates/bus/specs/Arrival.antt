@@ -14,15 +14,19 @@ use Rattle.state.specs.declared.Wait.{Wait}
 use Rattle.state.specs.declared.Wait.the-variants.{Nothing, Data, Acknowledge}
 use Rattle.state.specs.declared.Core.{Core}
 use Rattle.state.specs.Update.{recordAt}
-use Rattle.state.specs.Sound.{WaitSound, Sound}
+use Rattle.state.specs.Sound.{WaitSound, waitRecord, Sound}
+use Rattle.bus.specs.declared.search.Found.{Found}
+use Rattle.bus.specs.declared.search.Found.the-variants.{Nowhere, At}
+use Rattle.bus.specs.declared.idle.Met.{Met}
+use Rattle.bus.specs.declared.idle.Met.the-variants as met
 use Rattle.bus.specs.declared.turn.Store.{Store}
-use Rattle.bus.specs.declared.turn.Store.the-variants.{Nowhere, At}
+use Rattle.bus.specs.declared.turn.Store.the-variants as store
 use Rattle.bus.specs.declared.turn.Says.the-variants.{Silence}
 use Rattle.bus.specs.declared.turn.Step.{Step}
 use Rattle.bus.specs.Turn.{noting, placed, unchanged}
 use Rattle.bus.specs.Active.{acknowledged}
 use Rattle.bus.specs.Data.{dataTurn}
-use Rattle.bus.specs.Idle.{firstPid, noWait}
+use Rattle.bus.specs.Idle.{firstPid, meeting, noWait}
 
 -- ---- a checked PID of the kind waited for
 
@@ -75,12 +79,30 @@ fulfilled core packet = awaitedStep (core .wait) core packet
 unfoldable pub packetStep : Core → List ℕ → Step
 packetStep core packet = cond (awaited (core .wait) packet) (fulfilled core packet) (noWait (timedOut core) packet)
 
+-- ---- the record that a packet is served by
+
+abbrev pub metAt : Met → Found
+metAt met.Nothing = Nowhere
+metAt (met.Trouble event) = Nowhere
+metAt (met.Frame frame) = Nowhere
+metAt (met.Token asks i) = At i
+
+unfoldable pub servedAt : Core → List ℕ → Found
+servedAt core packet =
+    cond (awaited (core .wait) packet) (At (waitRecord (core .wait))) (metAt (meeting (timedOut core) packet))
+
+-- the core waits on the record
+abbrev pub WaitsOn : Wait → ℕ → Type 0
+WaitsOn Nothing j = ⊥
+WaitsOn (Data i stage) j = i ≡ j
+WaitsOn (Acknowledge i buffer sent) j = i ≡ j
+
 -- ---- what the inner functions are given
 
 -- the stretch of a store is of the memory
 abbrev pub StoreWithin : Store → ℕ → ℕ → Type 0
-StoreWithin Nowhere n M = Unit {0}
-StoreWithin (At place) n M = place + n ≤ M
+StoreWithin store.Nowhere n M = Unit {0}
+StoreWithin (store.At place) n M = place + n ≤ M
 
 -- a sound core, and all its memory
 abbrev pub Ready : Core → ℕ → Type 0

@@ -99,7 +99,7 @@ fn setting_up(r: Record, n: u32) -> Turn
     requires { ⌜ Roomy r n ⌝ }
     ensures { λ t. ⌜ t ≡ settingUp r n ⌝ }
 {
-    let place = active::place_of(update::buffer_of(r, false));
+    let front = active::place_of(update::buffer_of(r, false));
     let data1 = Toggles {
         out_side: true,
         in_side: true,
@@ -108,7 +108,7 @@ fn setting_up(r: Record, n: u32) -> Turn
     Turn {
         after: update::with_condition(ready, Condition::Normal),
         wait: Wait::Nothing,
-        store: Store::At(place),
+        store: Store::At(front),
         says: Says::Ack,
     }
 }
