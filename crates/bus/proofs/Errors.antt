@@ -4,9 +4,8 @@ use Prim.Native.Nat.{ℕ}
 use native.Mathlib.Omega.{arith}
 use mathlib.Core.Path.{_≡_, refl, sym, _∙_, ap, subst}
 use mathlib.Core.Logic.{_⊎_, inl, inr}
-use mathlib.Core.Bool.{Bool, true, false, not, _&&_, cond, Bool·beq, true≢false, false≢true}
+use mathlib.Core.Bool.{Bool, true, false, not, cond, Bool·beq, true≢false, false≢true}
 use mathlib.Core.List.{List}
-use lib.Dec.{eqb}
 use lib.ListN.{length}
 use lib.Seq.{set-getD}
 use Rattle.wire.specs.declared.pid.Kind as pid
@@ -16,7 +15,6 @@ use Rattle.wire.specs.declared.data.Verdict.the-variants as verdict
 use Rattle.wire.specs.Data.{verdictOf, payloadOf}
 use Rattle.wire.specs.Data as wire-data
 use Rattle.wire.proofs.Reading.{passed}
-use Rattle.state.specs.declared.RecordEvent.the-variants.{OutOfPlace, NotTaken}
 use Rattle.state.specs.declared.Record.{Record}
 use Rattle.state.specs.declared.Stage.{Stage}
 use Rattle.state.specs.declared.Stage.the-variants as stage
@@ -33,13 +31,14 @@ use Rattle.bus.specs.declared.turn.Says.{Says}
 use Rattle.bus.specs.declared.turn.Says.the-variants.{Silence, Ack, Data}
 use Rattle.bus.specs.declared.turn.Turn.{Turn}
 use Rattle.bus.specs.declared.turn.Step.{Step}
-use Rattle.bus.specs.Turn.{saying, noting, waiting, placed}
+use Rattle.bus.specs.Turn.{saying, placed}
 use Rattle.bus.specs.Active.{chosen, active}
-use Rattle.bus.specs.Tokens.{isHalted, onSetup, turnOf}
+use Rattle.bus.specs.Tokens.{isHalted, turnOf}
 use Rattle.bus.specs.Data.{afterOut, settingUp, afterSetup, dataTurn}
 use Rattle.bus.specs.Arrival.{isDataFirst, dataStep, awaited, awaitedStep, fulfilled, packetStep}
 use Rattle.bus.proofs.Pids.{first}
 use Rattle.bus.proofs.Steps.{step-awaited}
+use Rattle.bus.proofs.Turns.{setup-by, after-setup-by}
 use Rattle.bus.proofs.Cases.{kindOfToggle, data-by}
 
 -- ---- choosing any free buffer: a used marked buffer is not skipped
@@ -101,12 +100,8 @@ abbrev Unharmed : Says → Type 0
 Unharmed says = (says ≡ Silence) ⊎ (says ≡ Ack)
 
 after : (r : Record) (toggle : Bool) (n : ℕ) → Unharmed (afterSetup r toggle n .says)
-unfolding afterSetup settingUp
-after r toggle n = pick (not toggle && eqb n 8 && isUnused (bufferOf r false))
-  where
-    pick : (b : Bool) → Unharmed (cond b (settingUp r n) (noting r NotTaken) .says)
-    pick true = inr refl
-    pick false = inl refl
+unfolding settingUp
+after r toggle n = after-setup-by r (λ (t : Turn). Unharmed (t .says)) toggle n (record { set-up = λ z u. inr refl; not-taken = inl refl })
 
 pub setup-not-turned-away : (core : Core) (i : ℕ) (p : List ℕ) → core .wait ≡ wait.Data i stage.Setup → isDataFirst p ≡ true → Unharmed (packetStep core p .says)
 unfolding dataStep
@@ -117,9 +112,4 @@ setup-not-turned-away core i p e d =
 
 -- the token itself is met with silence
 pub setup-token-silent : (i : ℕ) (r : Record) → turnOf asks.Setup i r .says ≡ Silence
-unfolding onSetup
-setup-token-silent i r = pick (isControl (r .endpoint .kind))
-  where
-    pick : (b : Bool) → cond b (waiting r (wait.Data i stage.Setup)) (noting r OutOfPlace) .says ≡ Silence
-    pick true = refl
-    pick false = refl
+setup-token-silent i r = setup-by r (λ (t : Turn). t .says ≡ Silence) i (record { at-control = λ c. refl; elsewhere = refl })

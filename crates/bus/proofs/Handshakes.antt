@@ -4,23 +4,17 @@ use Prim.Native.Nat.{ℕ, _<_}
 use native.Mathlib.Omega.{arith}
 use mathlib.Core.Path.{_≡_, refl, sym, _∙_, ap, subst}
 use mathlib.Core.Logic.{_⊎_, inl, inr}
-use mathlib.Core.Bool.{Bool, true, false, not, _&&_, cond, Bool·beq, false≢true}
-use mathlib.Core.List.{List, [], _∷_}
-use lib.Dec.{ltb, eqb}
+use mathlib.Core.Bool.{Bool, true, false, not}
+use mathlib.Core.List.{List}
 use lib.ListN.{length}
-use borrow.Author.Tests.{ltb-true, not-true}
-use Rattle.laws.proofs.First.{answered}
 use Rattle.wire.specs.declared.data.Verdict.the-variants as verdict
 use Rattle.wire.specs.Data.{verdictOf, payloadOf}
-use Rattle.state.specs.declared.Speed.{Speed}
-use Rattle.state.specs.declared.RecordEvent.the-variants.{OutOfPlace, NotTaken}
 use Rattle.state.specs.declared.Record.{Record}
 use Rattle.state.specs.declared.Stage.{Stage}
 use Rattle.state.specs.declared.Stage.the-variants as stage
 use Rattle.state.specs.declared.Wait.the-variants as wait
 use Rattle.state.specs.declared.Core.{Core}
-use Rattle.state.specs.Update.{bufferOf, recordAt}
-use Rattle.state.specs.Ranges.{isControl, isUnused}
+use Rattle.state.specs.Update.{recordAt}
 use Rattle.state.specs.Sound.{Sound}
 use Rattle.bus.specs.declared.active.Direction.the-variants.{Out, In}
 use Rattle.bus.specs.declared.token.Asks.{Asks}
@@ -32,12 +26,12 @@ use Rattle.bus.specs.declared.turn.Says.{Says}
 use Rattle.bus.specs.declared.turn.Says.the-variants.{Silence, Ack, Nak, Stall, Nyet, Data, Frame}
 use Rattle.bus.specs.declared.turn.Turn.{Turn}
 use Rattle.bus.specs.declared.turn.Step.{Step}
-use Rattle.bus.specs.Turn.{saying, noting, waiting}
 use Rattle.bus.specs.Active.{active, acknowledged}
-use Rattle.bus.specs.Tokens.{isHalted, isInterrupt, onSetup, onPing, sending, onIn, turnOf}
-use Rattle.bus.specs.Data.{isHigh, acceptance, taken, taking, afterOut, settingUp, afterSetup, staged}
+use Rattle.bus.specs.Tokens.{onSetup, onPing, sending, onIn, turnOf}
+use Rattle.bus.specs.Data.{taken, taking, afterOut, settingUp, afterSetup, staged}
 use Rattle.bus.specs.Idle.{meeting}
 use Rattle.bus.specs.Arrival.{isDataFirst, dataStep, packetStep, timedOut}
+use Rattle.bus.proofs.Turns.{ping-by, setup-by, in-by, after-setup-by, after-out-by, accepted-by}
 use Rattle.bus.proofs.Cases.{kindOfToggle, data-by, no-wait-by, packet-by}
 use Rattle.bus.proofs.Errors.{data-step}
 use Rattle.bus.proofs.KeepsSound.{timeout-sound}
@@ -85,38 +79,24 @@ pub record Repeats (r : Record) (s : Stage) (p : List ℕ) : Type 0 where
 abbrev Accounted : Record → Stage → List ℕ → Turn → Type 0
 Accounted r s p t = Positive (t .says) → StoredAt (t .store) ⊎ Repeats r s p
 
-flipped : (t o : Bool) → not (Bool·beq t o) ≡ true → t ≡ not o
-flipped true true e = absurd (false≢true e)
-flipped true false e = refl
-flipped false true e = refl
-flipped false false e = absurd (false≢true e)
-
 module _ (core : Core) (r : Record) (p : List ℕ) where
   setup-accounted : (toggle : Bool) (n : ℕ) → Accounted r stage.Setup p (afterSetup r toggle n)
-  unfolding afterSetup settingUp
-  setup-accounted toggle n = pick (not toggle && eqb n 8 && isUnused (bufferOf r false))
-    where
-      pick : (b : Bool) → Accounted r stage.Setup p (cond b (settingUp r n) (noting r NotTaken))
-      pick true a = inl (record { place = _; is-there = refl })
-      pick false a = absurd (silence-not a)
+  unfolding settingUp
+  setup-accounted toggle n =
+      after-setup-by r (Accounted r stage.Setup p) toggle n
+      (record { set-up = λ z u a. inl (record { place = _; is-there = refl }); not-taken = λ a. absurd (silence-not a) })
 
   out-accounted : (toggle : Bool) (n : ℕ) → verdictOf p ≡ verdict.Good (kindOfToggle toggle) → Accounted r stage.Out p (afterOut (core .speed) r toggle n)
-  unfolding afterOut taking
+  unfolding taking
   out-accounted toggle n e =
-      answered (Accounted r stage.Out p)
-      ((isHalted (r .condition), saying r Stall)
-      ∷ (not (Bool·beq toggle (r .toggles .«out_side»)), saying r Ack)
-      ∷ (not (active Out r), saying r Nak)
-      ∷ (ltb (r .endpoint .maximum) n, saying r Nak)
-      ∷ [])
-      (taking (core .speed) r n) (
-        (λ h a. absurd (stall-not a)),
-        (
-          (λ h a. inr (record { after-out = refl; other-toggle = e ∙ ap (λ (b : Bool). verdict.Good (kindOfToggle b)) (flipped toggle (r .toggles .«out_side») h) })),
-          ((λ h a. absurd (nak-not a)), ((λ h a. absurd (nak-not a)), tt)),
-        ),
-      )
-      (λ q a. inl (record { place = _; is-there = refl }))
+      after-out-by r (Accounted r stage.Out p) toggle n (core .speed)
+      (record {
+        out-stall = λ a. absurd (stall-not a);
+        out-repeat = λ f a. inr (record { after-out = refl; other-toggle = e ∙ ap (λ (b : Bool). verdict.Good (kindOfToggle b)) f });
+        out-no-buffer = λ f a. absurd (nak-not a);
+        out-too-long = λ f a. absurd (nak-not a);
+        out-take = λ h u a. inl (record { place = _; is-there = refl });
+      })
 
   staged-accounted : (s : Stage) (toggle : Bool) (n : ℕ) → verdictOf p ≡ verdict.Good (kindOfToggle toggle) → Accounted r s p (staged (core .speed) s r toggle n)
   staged-accounted stage.Setup toggle n e = setup-accounted toggle n
@@ -157,6 +137,9 @@ module _ (core : Core) (p : List ℕ) where
   acked : Ack ≡ Nak → NakReason core p
   acked e = absurd (other-code Ack 1 refl (λ z. omega (arith, z)) e)
 
+  nyetted : Nyet ≡ Nak → NakReason core p
+  nyetted e = absurd (other-code Nyet 4 refl (λ z. omega (arith, z)) e)
+
   stalled : Stall ≡ Nak → NakReason core p
   stalled e = absurd (other-code Stall 3 refl (λ z. omega (arith, z)) e)
 
@@ -168,42 +151,21 @@ module _ (core : Core) (p : List ℕ) where
 
   -- ---- after data
 
-  accepted : (speed : Speed) (q : Record) → acceptance speed q ≡ Nak → ⊥
-  unfolding acceptance
-  accepted speed q = pick (isHigh speed && not (isInterrupt (q .endpoint .transfer)) && not (active Out q))
-    where
-      pick : (b : Bool) → cond b Nyet Ack ≡ Nak → ⊥
-      pick true = other-code Nyet 4 refl (λ e. omega (arith, e))
-      pick false = other-code Ack 1 refl (λ e. omega (arith, e))
-
   out-nak : (i : ℕ) → core .wait ≡ wait.Data i stage.Out → (toggle : Bool) → Nakked (afterOut (core .speed) (recordAt core i) toggle (length (payloadOf p)))
-  unfolding afterOut taking
+  unfolding taking
   out-nak i e toggle =
-      answered Nakked
-      ((isHalted (recordAt core i .condition), saying (recordAt core i) Stall)
-      ∷ (not (Bool·beq toggle (recordAt core i .toggles .«out_side»)), saying (recordAt core i) Ack)
-      ∷ (not (active Out (recordAt core i)), saying (recordAt core i) Nak)
-      ∷ (ltb (recordAt core i .endpoint .maximum) (length (payloadOf p)), saying (recordAt core i) Nak)
-      ∷ [])
-      (taking (core .speed) (recordAt core i) (length (payloadOf p))) (
-        (λ h. stalled),
-        (
-          (λ h. acked),
-          (
-            (λ h g. no-buffer i e (not-true (active Out (recordAt core i)) h)),
-            ((λ h g. too-long i e (ltb-true (recordAt core i .endpoint .maximum) (length (payloadOf p)) h)), tt),
-          ),
-        ),
-      )
-      (λ q g. absurd (accepted (core .speed) (taken (recordAt core i) (length (payloadOf p))) g))
+      after-out-by (recordAt core i) Nakked toggle (length (payloadOf p)) (core .speed)
+      (record {
+        out-stall = stalled;
+        out-repeat = λ f. acked;
+        out-no-buffer = λ f g. no-buffer i e f;
+        out-too-long = λ f g. too-long i e f;
+        out-take = λ h a. accepted-by (λ (x : Says). x ≡ Nak → NakReason core p) acked nyetted (core .speed) (taken (recordAt core i) (length (payloadOf p)));
+      })
 
   setup-nak : (r : Record) (toggle : Bool) (n : ℕ) → Nakked (afterSetup r toggle n)
-  unfolding afterSetup settingUp
-  setup-nak r toggle n = pick (not toggle && eqb n 8 && isUnused (bufferOf r false))
-    where
-      pick : (b : Bool) → Nakked (cond b (settingUp r n) (noting r NotTaken))
-      pick true = acked
-      pick false = quiet
+  unfolding settingUp
+  setup-nak r toggle n = after-setup-by r Nakked toggle n (record { set-up = λ z u. acked; not-taken = quiet })
 
   staged-nak : (i : ℕ) (s : Stage) → core .wait ≡ wait.Data i s → (toggle : Bool) → Nakked (staged (core .speed) s (recordAt core i) toggle (length (payloadOf p)))
   staged-nak i stage.Setup e toggle = setup-nak (recordAt core i) toggle (length (payloadOf p))
@@ -212,40 +174,24 @@ module _ (core : Core) (p : List ℕ) where
   -- ---- after a token
 
   module _ (i : ℕ) (r : Record) (same : r ≡ recordAt (timedOut core) i) where
-    ping-nak : meeting (timedOut core) p ≡ Token asks.Ping i → Nakked (onPing r)
-    unfolding onPing
-    ping-nak m =
-        answered Nakked
-        ((isInterrupt (r .endpoint .transfer), noting r OutOfPlace)
-        ∷ (isHalted (r .condition), saying r Stall)
-        ∷ (active Out r, saying r Ack)
-        ∷ [])
-        (saying r Nak)
-        ((λ h. quiet), ((λ h. stalled), ((λ h. acked), tt)))
-        (λ q g. no-ping-buffer i m (ap (active Out) (sym same) ∙ q .1 .1 .0))
+    at-ping : meeting (timedOut core) p ≡ Token asks.Ping i → Nakked (onPing r)
+    at-ping m =
+        ping-by r Nakked
+        (record { at-interrupt = quiet; ping-stall = stalled; ping-ack = λ a. acked; ping-nak = λ a g. no-ping-buffer i m (ap (active Out) (sym same) ∙ a) })
 
-    in-nak : meeting (timedOut core) p ≡ Token asks.In i → Nakked (onIn i r)
-    unfolding onIn sending
-    in-nak m =
-        answered Nakked
-        ((isHalted (r .condition), saying r Stall) ∷ (not (active In r), saying r Nak) ∷ [])
-        (sending i r)
-        ((λ h. stalled), ((λ h g. no-in-buffer i m (ap (active In) (sym same) ∙ not-true (active In r) h)), tt))
-        (λ q. sent _ _ _)
+    at-in : meeting (timedOut core) p ≡ Token asks.In i → Nakked (onIn i r)
+    unfolding sending
+    at-in m =
+        in-by r Nakked i (record { in-stall = stalled; in-nak = λ a g. no-in-buffer i m (ap (active In) (sym same) ∙ a); in-send = λ a. sent _ _ _ })
 
-    setup-token-nak : Nakked (onSetup i r)
-    unfolding onSetup
-    setup-token-nak = pick (isControl (r .endpoint .kind))
-      where
-        pick : (b : Bool) → Nakked (cond b (waiting r (wait.Data i stage.Setup)) (noting r OutOfPlace))
-        pick true = quiet
-        pick false = quiet
+    at-setup : Nakked (onSetup i r)
+    at-setup = setup-by r Nakked i (record { at-control = λ c. quiet; elsewhere = quiet })
 
     token-nak : (a : Asks) → meeting (timedOut core) p ≡ Token a i → Nakked (turnOf a i r)
     token-nak asks.Out m = quiet
-    token-nak asks.Setup m = setup-token-nak
-    token-nak asks.Ping m = ping-nak m
-    token-nak asks.In m = in-nak m
+    token-nak asks.Setup m = at-setup
+    token-nak asks.Ping m = at-ping m
+    token-nak asks.In m = at-in m
 
   pub nak-only-then : Sound core → packetStep core p .says ≡ Nak → NakReason core p
   unfolding dataStep acknowledged

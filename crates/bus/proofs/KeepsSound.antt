@@ -2,13 +2,10 @@
 use Prim.Native.Nat.{ℕ, _≤_, _<_}
 use native.Mathlib.Omega.{arith}
 use mathlib.Core.Path.{_≡_, refl, sym, _∙_, ap, subst}
-use mathlib.Core.Bool.{Bool, true, false, not, _&&_, _||_, cond, Bool·beq, false≢true}
-use mathlib.Core.List.{List, [], _∷_}
-use lib.Dec.{ltb, eqb}
+use mathlib.Core.Bool.{Bool, true, false, not, _||_, cond, false≢true}
+use mathlib.Core.List.{List}
+use lib.Dec.{ltb}
 use lib.ListN.{length}
-use borrow.Author.Tests.{ltb-false, eqb-true, not-false}
-use Rattle.laws.proofs.Bools.{both}
-use Rattle.laws.proofs.First.{answered}
 use Rattle.wire.specs.declared.data.Verdict.{Verdict}
 use Rattle.wire.specs.Data.{verdictOf, payloadOf}
 use Rattle.state.specs.declared.Condition.the-variants.{Normal}
@@ -39,15 +36,16 @@ use Rattle.bus.specs.declared.turn.Says.{Says}
 use Rattle.bus.specs.declared.turn.Says.the-variants.{Silence, Ack, Nak, Stall}
 use Rattle.bus.specs.declared.turn.Turn.{Turn}
 use Rattle.bus.specs.declared.turn.Step.{Step}
-use Rattle.bus.specs.Turn.{saying, noting, waiting, placed}
+use Rattle.bus.specs.Turn.{saying, noting, placed}
 use Rattle.bus.specs.Active.{chosen, active, filled, flippedIn, acknowledged}
-use Rattle.bus.specs.Tokens.{directionOf, isHalted, isInterrupt, onOut, onSetup, onPing, countOf, sending, onIn, turnOf}
+use Rattle.bus.specs.Tokens.{directionOf, onOut, onSetup, onPing, countOf, sending, onIn, turnOf}
 use Rattle.bus.specs.Data.{flippedOut, marked, taken, taking, afterOut, settingUp, afterSetup, staged, dataTurn}
 use Rattle.bus.specs.Idle.{noWait}
 use Rattle.bus.specs.Arrival.{missed, dataStep, packetStep, runOut, timedOut}
 use Rattle.bus.proofs.Sizes.{control-least}
 use Rattle.bus.proofs.Moved.{Moved, moved-same, moved-condition, moved-next, moved-events, moved-toggles, filled-moved, advanced-moved, flip-out-fits, flip-in-fits, same-records, placed-sound}
-use Rattle.bus.proofs.Serving.{Serving, awaiting, its-sound, stays, out-chosen, in-sender, sends-left}
+use Rattle.bus.proofs.Serving.{Serving, awaiting, its-sound, stays, out-chosen, control-out, in-sender, sends-left}
+use Rattle.bus.proofs.Turns.{ping-by, setup-by, in-by, after-setup-by, after-out-by}
 use Rattle.bus.proofs.Cases.{data-by, no-wait-by, packet-by}
 
 -- ---- the record's turn
@@ -86,24 +84,17 @@ module _ (core : Core) (w : Sound core) (i : ℕ) where
     out-turn = record { moved = same; wait-sound = data-wait stage.Out (record { is-live = v .is-live; out-side = v .side; stage-fits = refl }) }
 
     setup-turn : Turned core i (onSetup i r)
-    unfolding onSetup
-    setup-turn = pick (isControl (r .endpoint .kind)) refl
-      where
-        pick : (b : Bool) → isControl (r .endpoint .kind) ≡ b → Turned core i (cond b (waiting r (wait.Data i stage.Setup)) (noting r OutOfPlace))
-        pick true c = record { moved = same; wait-sound = data-wait stage.Setup (record { is-live = v .is-live; out-side = v .side; stage-fits = c }) }
-        pick false c = noted-turn OutOfPlace
+    setup-turn =
+        setup-by r (Turned core i) i
+        (record {
+          at-control = λ c. record { moved = same; wait-sound = data-wait stage.Setup (record { is-live = v .is-live; out-side = v .side; stage-fits = c }) };
+          elsewhere = noted-turn OutOfPlace;
+        })
 
     ping-turn : Turned core i (onPing r)
-    unfolding onPing
     ping-turn =
-        answered (Turned core i)
-        ((isInterrupt (r .endpoint .transfer), noting r OutOfPlace)
-        ∷ (isHalted (r .condition), saying r Stall)
-        ∷ (active Out r, saying r Ack)
-        ∷ [])
-        (saying r Nak)
-        ((λ e. noted-turn OutOfPlace), ((λ e. idle r Stall same), ((λ e. idle r Ack same), tt)))
-        (λ p. idle r Nak same)
+        ping-by r (Turned core i)
+        (record { at-interrupt = noted-turn OutOfPlace; ping-stall = idle r Stall same; ping-ack = λ a. idle r Ack same; ping-nak = λ a. idle r Nak same })
 
     -- ---- data awaited
 
@@ -132,24 +123,17 @@ module _ (core : Core) (w : Sound core) (i : ℕ) where
         }
 
     after-out-turn : (toggle : Bool) (n : ℕ) → Turned core i (afterOut (core .speed) r toggle n)
-    unfolding afterOut
     after-out-turn toggle n =
-        answered (Turned core i)
-        ((isHalted (r .condition), saying r Stall)
-        ∷ (not (Bool·beq toggle (r .toggles .«out_side»)), saying r Ack)
-        ∷ (not (active Out r), saying r Nak)
-        ∷ (ltb (r .endpoint .maximum) n, saying r Nak)
-        ∷ [])
-        (taking (core .speed) r n)
-        ((λ e. idle r Stall same), ((λ e. idle r Ack same), ((λ e. idle r Nak same), ((λ e. idle r Nak same), tt))))
-        (λ p. taken-turn n (ltb-false (r .endpoint .maximum) n (p .1 .1 .1 .0)) (not-false (active Out r) (p .1 .1 .0)))
+        after-out-by r (Turned core i) toggle n (core .speed)
+        (record {
+          out-stall = idle r Stall same;
+          out-repeat = λ e. idle r Ack same;
+          out-no-buffer = λ e. idle r Nak same;
+          out-too-long = λ e. idle r Nak same;
+          out-take = taken-turn n;
+        })
 
     module _ (c : isControl (r .endpoint .kind) ≡ true) where
-      first-out : (k : Kind) → isControl k ≡ true → outSide k false ≡ true
-      first-out kind.Control e = refl
-      first-out kind.In e = absurd (false≢true e)
-      first-out kind.Out e = absurd (false≢true e)
-
       any-toggles : (k : Kind) → isControl k ≡ true → (t : Toggles) → togglesFit k t ≡ true
       any-toggles kind.Control e t = refl
       any-toggles kind.In e t = absurd (false≢true e)
@@ -167,17 +151,11 @@ module _ (core : Core) (w : Sound core) (i : ℕ) where
           both-data1 = record { «out_side» = true; «in_side» = true }
 
           m : Moved M (core .speed) r (filled r false n)
-          m = let k = control-least (core .speed) (r .endpoint) (its-sound core w i Out v .endpoint-fits) c in filled-turn n (omega (arith, k, e)) false (first-out (r .endpoint .kind) c) u
+          m = let k = control-least (core .speed) (r .endpoint) (its-sound core w i Out v .endpoint-fits) c in filled-turn n (omega (arith, k, e)) false (control-out (r .endpoint .kind) c) u
 
       after-setup-turn : (toggle : Bool) (n : ℕ) → Turned core i (afterSetup r toggle n)
-      unfolding afterSetup
-      after-setup-turn toggle n = pick (not toggle && eqb n 8 && isUnused (bufferOf r false)) refl
-        where
-          pick : (b : Bool) → (not toggle && eqb n 8 && isUnused (bufferOf r false)) ≡ b → Turned core i (cond b (settingUp r n) (noting r NotTaken))
-          pick true e =
-              let p = both (not toggle && eqb n 8) (isUnused (bufferOf r false)) e in
-              set-up-turn n (eqb-true n 8 (both (not toggle) (eqb n 8) (p .0) .1)) (p .1)
-          pick false e = noted-turn NotTaken
+      after-setup-turn toggle n =
+          after-setup-by r (Turned core i) toggle n (record { set-up = set-up-turn n; not-taken = noted-turn NotTaken })
 
     staged-turn : (s : Stage) → DataWait r s → (toggle : Bool) (n : ℕ) → Turned core i (staged (core .speed) s r toggle n)
     staged-turn stage.Setup d toggle n = after-setup-turn (d .stage-fits) toggle n
@@ -212,13 +190,8 @@ module _ (core : Core) (w : Sound core) (i : ℕ) where
             }
 
     in-turn : Turned core i (onIn i r)
-    unfolding onIn
     in-turn =
-        answered (Turned core i)
-        ((isHalted (r .condition), saying r Stall) ∷ (not (active In r), saying r Nak) ∷ [])
-        (sending i r)
-        ((λ e. idle r Stall same-in), ((λ e. idle r Nak same-in), tt))
-        (λ p. sending-turn (not-false (active In r) (p .1 .0)))
+        in-by r (Turned core i) i (record { in-stall = idle r Stall same-in; in-nak = λ a. idle r Nak same-in; in-send = sending-turn })
 
   acknowledged-turn : (second : Bool) (sent : ℕ) → WaitSound core (wait.Acknowledge i second sent) → Turned core i (acknowledged r second sent)
   unfolding acknowledged

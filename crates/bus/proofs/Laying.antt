@@ -12,7 +12,11 @@ use Rattle.wire.specs.declared.data.Written.{Written}
 use Rattle.wire.specs.declared.data.Written.the-variants.{Packet, Refused}
 use Rattle.wire.specs.Pid.{kindOf, isData}
 use Rattle.wire.specs.Data.{packet, writeRefusal, writeOf, bufferBy, bufferAfter}
-use Rattle.bus.specs.Turn.{written, dataPid, laid}
+use Rattle.bus.specs.declared.Answer.{Answer}
+use Rattle.bus.specs.declared.Answer.the-variants.{Reply}
+use Rattle.bus.specs.declared.turn.Says.{Says}
+use Rattle.bus.specs.Turn.{written, dataPid, said, laid}
+use Rattle.bus.specs.Answers.{answerOf}
 
 -- the stretch from `at` was lent on, and came back with the payload copied over it
 pub copied-back : (memory payload back : List ℕ) (at : ℕ) → at + length payload ≤ length memory → back ≡ take (length payload) payload ++ drop (length payload) (take (at + length payload - at) (drop at memory))
@@ -69,6 +73,14 @@ refused-no-packet n length e = true≢false (ap is-refused e)
     is-refused : Written → Bool
     is-refused (Packet k) = false
     is-refused (Refused k) = true
+
+-- a handshake: its one byte is what is said
+pub shaken : (says s : Says) (memory reply last : List ℕ) (a : Answer) (byte : ℕ) → says ≡ s → said s memory ≡ byte ∷ [] → ((n : ℕ) → answerOf s n ≡ Reply n) → a ≡ Reply 1 → last ≡ laid (byte ∷ []) reply
+    → (a ≡ answerOf says (length (said says memory))) × (last ≡ laid (said says memory) reply)
+shaken says s memory reply last a byte e b r f g = (
+  f ∙ sym (ap (λ (x : Says). answerOf x (length (said x memory))) e ∙ r (length (said s memory)) ∙ ap (λ (l : List ℕ). Reply (length l)) b),
+  g ∙ ap (λ (l : List ℕ). laid l reply) (sym (ap (λ (x : Says). said x memory) e ∙ b)),
+)
 
 pub one-laid : (byte : ℕ) (reply : List ℕ) → 0 < length reply → set reply 0 byte ≡ laid (byte ∷ []) reply
 one-laid byte [] h = absurd (omega (arith, h))

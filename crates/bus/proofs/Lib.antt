@@ -1,6 +1,7 @@
 pub mod Room
 pub mod Pids
 pub mod Laying
+pub mod Turns
 pub mod Descriptors
 pub mod Sizes
 pub mod Moved

@@ -4,12 +4,11 @@ use Prim.Native.Nat.{ℕ, _+_, _<_, min}
 use native.Mathlib.Omega.{arith}
 use mathlib.Core.Path.{_≡_, refl, sym, _∙_, ap, subst}
 use mathlib.Core.Logic.{inl, inr}
-use mathlib.Core.Bool.{Bool, true, false, not, _||_, cond, Bool·beq, true≢false}
-use mathlib.Core.List.{List, [], _∷_}
+use mathlib.Core.Bool.{Bool, true, false, not, _||_, cond, true≢false}
+use mathlib.Core.List.{List, []}
 use lib.Dec.{ltb}
 use lib.ListN.{length}
 use Rattle.laws.proofs.Bools.{decEq}
-use Rattle.laws.proofs.First.{answered}
 use Rattle.wire.specs.Data.{packet, verdictOf, payloadOf}
 use Rattle.state.specs.declared.RecordEvent.{RecordEvent}
 use Rattle.state.specs.declared.RecordEvent.the-variants.{NotGood, OutOfPlace, ShortPacket}
@@ -30,16 +29,17 @@ use Rattle.bus.specs.declared.active.Direction.the-variants.{Out, In}
 use Rattle.bus.specs.declared.token.Asks.{Asks}
 use Rattle.bus.specs.declared.token.Asks.the-variants as asks
 use Rattle.bus.specs.declared.turn.Store.the-variants.{Nowhere}
-use Rattle.bus.specs.declared.turn.Says.the-variants.{Ack, Nak, Stall, Data}
+use Rattle.bus.specs.declared.turn.Says.the-variants.{Data}
 use Rattle.bus.specs.declared.turn.Turn.{Turn}
 use Rattle.bus.specs.declared.turn.Step.{Step}
-use Rattle.bus.specs.Turn.{dataPid, said, saying, noting, waiting, placed}
+use Rattle.bus.specs.Turn.{dataPid, said, noting, placed}
 use Rattle.bus.specs.Active.{chosen, active, leftOf, grown, spent, usedUp, filled, acknowledged}
-use Rattle.bus.specs.Tokens.{isHalted, isInterrupt, onSetup, onPing, sending, onIn, turnOf}
+use Rattle.bus.specs.Tokens.{isHalted, onSetup, onPing, sending, onIn, turnOf}
 use Rattle.bus.specs.Data.{flippedOut, marked, taken, taking, afterOut, staged, dataTurn}
 use Rattle.bus.specs.Idle.{noWait}
 use Rattle.bus.specs.Arrival.{isDataFirst, isAck, dataStep, packetStep, timedOut}
 use Rattle.bus.proofs.Serving.{Serving, awaiting, out-chosen, in-sender}
+use Rattle.bus.proofs.Turns.{ping-by, setup-by, in-by, after-out-by}
 use Rattle.bus.proofs.Cases.{data-by, no-wait-by, packet-by}
 use Rattle.bus.proofs.KeepsSound.{timeout-sound}
 use Rattle.bus.proofs.Alone.{Ended, timeout-alone}
@@ -106,17 +106,16 @@ module _ (core : Core) (r : Record) where
   Keeps t = InSame r (t .after)
 
   out-same : (toggle : Bool) (n : ℕ) → outSide (r .endpoint .kind) (chosen Out r) ≡ true → Keeps (afterOut (core .speed) r toggle n)
-  unfolding afterOut taking
+  unfolding taking
   out-same toggle n o =
-      answered Keeps
-      ((isHalted (r .condition), saying r Stall)
-      ∷ (not (Bool·beq toggle (r .toggles .«out_side»)), saying r Ack)
-      ∷ (not (active Out r), saying r Nak)
-      ∷ (ltb (r .endpoint .maximum) n, saying r Nak)
-      ∷ [])
-      (taking (core .speed) r n)
-      ((λ e. itself r), ((λ e. itself r), ((λ e. itself r), ((λ e. itself r), tt))))
-      (λ p. taken-same r n o)
+      after-out-by r Keeps toggle n (core .speed)
+      (record {
+        out-stall = itself r;
+        out-repeat = λ e. itself r;
+        out-no-buffer = λ e. itself r;
+        out-too-long = λ e. itself r;
+        out-take = λ h a. taken-same r n o;
+      })
 
   noted-same : (event : RecordEvent) → Keeps (noting r event)
   noted-same event = record { endpoint-same = refl; toggle = refl; buffers = λ second o. refl }
@@ -124,33 +123,21 @@ module _ (core : Core) (r : Record) where
   -- ---- a token moves no buffer and no toggle
 
   setup-same : (i : ℕ) → Keeps (onSetup i r)
-  unfolding onSetup
-  setup-same i = pick (isControl (r .endpoint .kind))
-    where
-      pick : (b : Bool) → Keeps (cond b (waiting r (wait.Data i stage.Setup)) (noting r OutOfPlace))
-      pick true = itself r
-      pick false = noted-same OutOfPlace
+  setup-same i = setup-by r Keeps i (record { at-control = λ c. itself r; elsewhere = noted-same OutOfPlace })
 
   ping-same : Keeps (onPing r)
-  unfolding onPing
   ping-same =
-      answered Keeps
-      ((isInterrupt (r .endpoint .transfer), noting r OutOfPlace)
-      ∷ (isHalted (r .condition), saying r Stall)
-      ∷ (active Out r, saying r Ack)
-      ∷ [])
-      (saying r Nak)
-      ((λ e. noted-same OutOfPlace), ((λ e. itself r), ((λ e. itself r), tt)))
-      (λ p. itself r)
+      ping-by r Keeps (record { at-interrupt = noted-same OutOfPlace; ping-stall = itself r; ping-ack = λ a. itself r; ping-nak = λ a. itself r })
 
   in-same : (i : ℕ) → Keeps (onIn i r)
-  unfolding onIn sending
+  unfolding sending
   in-same i =
-      answered Keeps
-      ((isHalted (r .condition), saying r Stall) ∷ (not (active In r), saying r Nak) ∷ [])
-      (sending i r)
-      ((λ e. itself r), ((λ e. itself r), tt))
-      (λ p. record { endpoint-same = refl; toggle = refl; buffers = λ second o. refl })
+      in-by r Keeps i
+      (record {
+        in-stall = itself r;
+        in-nak = λ a. itself r;
+        in-send = λ a. record { endpoint-same = refl; toggle = refl; buffers = λ second o. refl };
+      })
 
   token-same : (a : Asks) (i : ℕ) → Keeps (turnOf a i r)
   token-same asks.Out i = itself r

@@ -1,7 +1,7 @@
 -- The record that a token or a wait is for: it is live, on that side, and its chosen buffer is of that side. Assumes nothing.
 use Prim.Native.Nat.{ℕ, _-_, _<_, min}
 use mathlib.Core.Path.{_≡_, refl}
-use mathlib.Core.Bool.{Bool, true, false, not, _||_, cond, false≢true}
+use mathlib.Core.Bool.{Bool, true, false, _||_, cond, false≢true}
 use borrow.Author.Tests.{eq-eqb}
 use Rattle.state.specs.declared.Kind.{Kind}
 use Rattle.state.specs.declared.Kind.the-variants as kind
@@ -11,8 +11,8 @@ use Rattle.state.specs.declared.Record.{Record}
 use Rattle.state.specs.declared.Stage.{Stage}
 use Rattle.state.specs.declared.Wait.the-variants.{Data}
 use Rattle.state.specs.declared.Core.{Core}
-use Rattle.state.specs.Update.{bufferOf, withNext, recordAt}
-use Rattle.state.specs.Ranges.{live, isControl, isArmed, outSide, isUnused, LiveSound}
+use Rattle.state.specs.Update.{withNext, recordAt}
+use Rattle.state.specs.Ranges.{live, isControl, outSide, isUnused, LiveSound}
 use Rattle.state.specs.Served.{servesOut, servesIn}
 use Rattle.state.specs.Sound.{sends, sender, WaitSound, Sound}
 use Rattle.state.proofs.Kept.{as-live}
@@ -38,22 +38,24 @@ module _ (core : Core) (w : Sound core) (i : ℕ) (direction : Direction) (v : S
 
 -- ---- the chosen buffer is of the side
 
--- what a kind that is no control record chooses
-abbrev otherwise : Record → Bool
-otherwise r = cond (isArmed (bufferOf r (r .next))) (r .next) (not (r .next))
-
 pub out-chosen : (r : Record) → servesOut (r .endpoint .kind) ≡ true → outSide (r .endpoint .kind) (chosen Out r) ≡ true
 unfolding chosen
-out-chosen r s = go (r .endpoint .kind) (otherwise r) s
+out-chosen r s = go (r .endpoint .kind) _ s
   where
     go : (k : Kind) (b : Bool) → servesOut k ≡ true → outSide k (cond (isControl k) false b) ≡ true
     go kind.Control b s = refl
     go kind.In b s = absurd (false≢true s)
     go kind.Out b s = refl
 
+-- control's buffer 0 is of the OUT side
+pub control-out : (k : Kind) → isControl k ≡ true → outSide k false ≡ true
+control-out kind.Control e = refl
+control-out kind.In e = absurd (false≢true e)
+control-out kind.Out e = absurd (false≢true e)
+
 pub in-chosen : (r : Record) → servesIn (r .endpoint .kind) ≡ true → outSide (r .endpoint .kind) (chosen In r) ≡ false
 unfolding chosen
-in-chosen r s = go (r .endpoint .kind) (otherwise r) s
+in-chosen r s = go (r .endpoint .kind) _ s
   where
     go : (k : Kind) (b : Bool) → servesIn k ≡ true → outSide k (cond (isControl k) true b) ≡ false
     go kind.Control b s = refl
@@ -63,7 +65,7 @@ in-chosen r s = go (r .endpoint .kind) (otherwise r) s
 -- the buffer that sends: control 1, otherwise the next mark's
 pub in-sender : (r : Record) → chosen In r ≡ sender (withNext r (chosen In r))
 unfolding chosen
-in-sender r = go (isControl (r .endpoint .kind)) (otherwise r)
+in-sender r = go (isControl (r .endpoint .kind)) _
   where
     go : (c b : Bool) → cond c true b ≡ (c || cond c true b)
     go true b = refl

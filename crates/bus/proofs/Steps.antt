@@ -1,33 +1,27 @@
 -- Which step a packet takes, and that only awaited data are stored. Assumes nothing.
 use Prim.Native.Nat.{ℕ}
 use mathlib.Core.Path.{_≡_, refl, _∙_, ap}
-use mathlib.Core.Bool.{Bool, true, false, not, cond}
-use mathlib.Core.List.{List, [], _∷_}
-use Rattle.laws.proofs.First.{answered}
+use mathlib.Core.Bool.{true, false}
+use mathlib.Core.List.{List}
 use Rattle.wire.specs.declared.data.Verdict.{Verdict}
 use Rattle.state.specs.declared.Speed.{Speed}
-use Rattle.state.specs.declared.RecordEvent.the-variants.{OutOfPlace}
 use Rattle.state.specs.declared.Record.{Record}
 use Rattle.state.specs.declared.Stage.{Stage}
-use Rattle.state.specs.declared.Stage.the-variants as stage
 use Rattle.state.specs.declared.Wait.the-variants as wait
 use Rattle.state.specs.declared.Core.{Core}
 use Rattle.state.specs.Update.{recordAt}
-use Rattle.state.specs.Ranges.{isControl}
 use Rattle.state.specs.Sound.{Sound}
 use Rattle.bus.specs.declared.active.Direction.the-variants.{Out, In}
 use Rattle.bus.specs.declared.token.Asks.{Asks}
 use Rattle.bus.specs.declared.token.Asks.the-variants as asks
 use Rattle.bus.specs.declared.turn.Store.the-variants.{Nowhere}
-use Rattle.bus.specs.declared.turn.Says.the-variants.{Ack, Nak, Stall}
 use Rattle.bus.specs.declared.turn.Turn.{Turn}
 use Rattle.bus.specs.declared.turn.Step.{Step}
-use Rattle.bus.specs.Turn.{saying, noting, waiting}
-use Rattle.bus.specs.Active.{active}
-use Rattle.bus.specs.Tokens.{isHalted, isInterrupt, onSetup, onPing, sending, onIn, turnOf}
+use Rattle.bus.specs.Tokens.{onSetup, onPing, sending, onIn, turnOf}
 use Rattle.bus.specs.Data.{dataTurn}
 use Rattle.bus.specs.Idle.{noWait}
 use Rattle.bus.specs.Arrival.{awaited, fulfilled, packetStep, timedOut}
+use Rattle.bus.proofs.Turns.{ping-by, setup-by, in-by}
 use Rattle.bus.proofs.Cases.{no-wait-by}
 
 module _ (core : Core) (p : List ℕ) where
@@ -46,33 +40,14 @@ module _ (i : ℕ) (r : Record) where
   Empty t = t .store ≡ Nowhere
 
   setup-empty : Empty (onSetup i r)
-  unfolding onSetup
-  setup-empty = pick (isControl (r .endpoint .kind))
-    where
-      pick : (b : Bool) → Empty (cond b (waiting r (wait.Data i stage.Setup)) (noting r OutOfPlace))
-      pick true = refl
-      pick false = refl
+  setup-empty = setup-by r Empty i (record { at-control = λ c. refl; elsewhere = refl })
 
   ping-empty : Empty (onPing r)
-  unfolding onPing
-  ping-empty =
-      answered Empty
-      ((isInterrupt (r .endpoint .transfer), noting r OutOfPlace)
-      ∷ (isHalted (r .condition), saying r Stall)
-      ∷ (active Out r, saying r Ack)
-      ∷ [])
-      (saying r Nak)
-      ((λ e. refl), ((λ e. refl), ((λ e. refl), tt)))
-      (λ p. refl)
+  ping-empty = ping-by r Empty (record { at-interrupt = refl; ping-stall = refl; ping-ack = λ a. refl; ping-nak = λ a. refl })
 
   in-empty : Empty (onIn i r)
-  unfolding onIn sending
-  in-empty =
-      answered Empty
-      ((isHalted (r .condition), saying r Stall) ∷ (not (active In r), saying r Nak) ∷ [])
-      (sending i r)
-      ((λ e. refl), ((λ e. refl), tt))
-      (λ p. refl)
+  unfolding sending
+  in-empty = in-by r Empty i (record { in-stall = refl; in-nak = λ a. refl; in-send = λ a. refl })
 
   pub token-stores-nothing : (a : Asks) → turnOf a i r .store ≡ Nowhere
   token-stores-nothing asks.Out = refl

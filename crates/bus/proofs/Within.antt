@@ -2,20 +2,14 @@
 use Prim.Native.Nat.{ℕ, _+_, _-_, _≤_}
 use native.Mathlib.Omega.{arith}
 use mathlib.Core.Path.{_≡_, refl, subst}
-use mathlib.Core.Bool.{Bool, true, false, not, _&&_, cond, Bool·beq, false≢true}
-use mathlib.Core.List.{List, [], _∷_}
-use lib.Dec.{ltb, eqb}
+use mathlib.Core.Bool.{Bool, true, false}
+use mathlib.Core.List.{List}
 use lib.ListN.{length, drop, length-take}
-use borrow.Author.Tests.{ltb-false, eqb-true, not-false}
-use Rattle.laws.proofs.Bools.{both}
-use Rattle.laws.proofs.First.{answered}
 use Rattle.wire.specs.declared.token.Token.the-variants.{Good}
 use Rattle.wire.specs.declared.data.Verdict.{Verdict}
 use Rattle.wire.specs.declared.data.Verdict.the-variants as verdict
 use Rattle.wire.specs.Data.{stretch, verdictOf, payloadBy, payloadOf}
 use Rattle.wire.proofs.Reading.{passed}
-use Rattle.state.specs.declared.RecordEvent.the-variants.{OutOfPlace, NotTaken}
-use Rattle.state.specs.declared.Kind.{Kind}
 use Rattle.state.specs.declared.Kind.the-variants as kind
 use Rattle.state.specs.declared.Record.{Record}
 use Rattle.state.specs.declared.Stage.{Stage}
@@ -31,19 +25,19 @@ use Rattle.bus.specs.declared.active.Direction.the-variants.{Out, In}
 use Rattle.bus.specs.declared.token.Asks.{Asks}
 use Rattle.bus.specs.declared.token.Asks.the-variants as asks
 use Rattle.bus.specs.declared.idle.Met.the-variants.{Nothing}
-use Rattle.bus.specs.declared.turn.Says.the-variants.{Ack, Nak, Stall, Nyet}
+use Rattle.bus.specs.declared.turn.Says.{Says}
 use Rattle.bus.specs.declared.turn.Turn.{Turn}
 use Rattle.bus.specs.declared.turn.Step.{Step}
-use Rattle.bus.specs.Turn.{saying, noting, waiting}
 use Rattle.bus.specs.Active.{chosen, active, doneOf, placeOf, Roomy, acknowledged}
-use Rattle.bus.specs.Tokens.{directionOf, isHalted, isInterrupt, onSetup, onPing, sending, onIn, turnOf}
-use Rattle.bus.specs.Data.{isHigh, acceptance, taken, taking, afterOut, settingUp, afterSetup, staged, dataTurn}
+use Rattle.bus.specs.Tokens.{directionOf, onSetup, onPing, sending, onIn, turnOf}
+use Rattle.bus.specs.Data.{taken, taking, afterOut, settingUp, afterSetup, staged, dataTurn}
 use Rattle.bus.specs.Idle.{noWait}
 use Rattle.bus.specs.Arrival.{dataStep, packetStep, missed, runOut, timedOut, StoreWithin}
 use Rattle.bus.specs.Answers.{SaysWithin}
 use Rattle.bus.proofs.Sizes.{maximum-most, control-least}
 use Rattle.bus.proofs.Descriptors.{done-small, out-room, in-room, sent-most}
-use Rattle.bus.proofs.Serving.{Serving, awaiting, its-sound, out-chosen, in-chosen}
+use Rattle.bus.proofs.Serving.{Serving, awaiting, its-sound, out-chosen, control-out, in-chosen}
+use Rattle.bus.proofs.Turns.{ping-by, setup-by, in-by, after-setup-by, after-out-by, accepted-by}
 use Rattle.bus.proofs.Cases.{data-by, no-wait-by, packet-by}
 use Rattle.bus.proofs.KeepsSound.{timeout-sound}
 
@@ -85,34 +79,25 @@ module _ (core : Core) (w : Sound core) (i : ℕ) where
         (subst (λ (out : Bool). DescriptorSound M out (r .endpoint .maximum) (bufferOf r second)) o (buffer-sound M (core .speed) r s second)) u
 
     after-out-within : (toggle : Bool) (n : ℕ) → StoreWithin (afterOut (core .speed) r toggle n .store) n M
-    unfolding afterOut taking active
+    unfolding taking active
     after-out-within toggle n =
-        answered (λ (t : Turn). StoreWithin (t .store) n M)
-        ((isHalted (r .condition), saying r Stall)
-        ∷ (not (Bool·beq toggle (r .toggles .«out_side»)), saying r Ack)
-        ∷ (not (active Out r), saying r Nak)
-        ∷ (ltb (r .endpoint .maximum) n, saying r Nak)
-        ∷ [])
-        (taking (core .speed) r n)
-        ((λ e. tt), ((λ e. tt), ((λ e. tt), ((λ e. tt), tt))))
-        (λ p. room n (ltb-false (r .endpoint .maximum) n (p .1 .1 .1 .0)) (chosen Out r) (out-chosen r (v .side)) (not-false (active Out r) (p .1 .1 .0)))
+        after-out-by r (λ (t : Turn). StoreWithin (t .store) n M) toggle n (core .speed)
+        (record {
+          out-stall = tt;
+          out-repeat = λ e. tt;
+          out-no-buffer = λ e. tt;
+          out-too-long = λ e. tt;
+          out-take = λ h a. room n h (chosen Out r) (out-chosen r (v .side)) a;
+        })
 
     after-setup-within : isControl (r .endpoint .kind) ≡ true → (toggle : Bool) (n : ℕ) → StoreWithin (afterSetup r toggle n .store) n M
-    unfolding afterSetup settingUp
-    after-setup-within c toggle n = pick (not toggle && eqb n 8 && isUnused (bufferOf r false)) refl
-      where
-        first-out : (k : Kind) → isControl k ≡ true → outSide k false ≡ true
-        first-out kind.Control e = refl
-        first-out kind.In e = absurd (false≢true e)
-        first-out kind.Out e = absurd (false≢true e)
-
-        pick : (b : Bool) → (not toggle && eqb n 8 && isUnused (bufferOf r false)) ≡ b → StoreWithin (cond b (settingUp r n) (noting r NotTaken) .store) n M
-        pick true e =
-            let p = both (not toggle && eqb n 8) (isUnused (bufferOf r false)) e in
-            let k = control-least (core .speed) (r .endpoint) (s .endpoint-fits) c in
-            let z = eqb-true n 8 (both (not toggle) (eqb n 8) (p .0) .1) in
-            room n (omega (arith, k, z)) false (first-out (r .endpoint .kind) c) (p .1)
-        pick false e = tt
+    unfolding settingUp
+    after-setup-within c toggle n =
+        after-setup-by r (λ (t : Turn). StoreWithin (t .store) n M) toggle n
+        (record {
+          set-up = λ z u. let k = control-least (core .speed) (r .endpoint) (s .endpoint-fits) c in room n (omega (arith, k, z)) false (control-out (r .endpoint .kind) c) u;
+          not-taken = tt;
+        })
 
     staged-within : (x : Stage) → DataWait r x → (toggle : Bool) (n : ℕ) → StoreWithin (staged (core .speed) x r toggle n .store) n M
     staged-within stage.Setup d toggle n = after-setup-within (d .stage-fits) toggle n
@@ -125,31 +110,19 @@ module _ (core : Core) (w : Sound core) (i : ℕ) where
 
     -- ---- a handshake is no data
 
-    acceptance-within : (q : Record) → SaysWithin (acceptance (core .speed) q) M
-    unfolding acceptance
-    acceptance-within q = pick (isHigh (core .speed) && not (isInterrupt (q .endpoint .transfer)) && not (active Out q))
-      where
-        pick : (b : Bool) → SaysWithin (cond b Nyet Ack) M
-        pick true = tt
-        pick false = tt
-
     staged-says : (x : Stage) (toggle : Bool) (n : ℕ) → SaysWithin (staged (core .speed) x r toggle n .says) M
-    unfolding afterOut taking afterSetup settingUp
-    staged-says stage.Setup toggle n = pick (not toggle && eqb n 8 && isUnused (bufferOf r false))
-      where
-        pick : (b : Bool) → SaysWithin (cond b (settingUp r n) (noting r NotTaken) .says) M
-        pick true = tt
-        pick false = tt
+    unfolding taking settingUp
+    staged-says stage.Setup toggle n =
+        after-setup-by r (λ (t : Turn). SaysWithin (t .says) M) toggle n (record { set-up = λ z u. tt; not-taken = tt })
     staged-says stage.Out toggle n =
-        answered (λ (t : Turn). SaysWithin (t .says) M)
-        ((isHalted (r .condition), saying r Stall)
-        ∷ (not (Bool·beq toggle (r .toggles .«out_side»)), saying r Ack)
-        ∷ (not (active Out r), saying r Nak)
-        ∷ (ltb (r .endpoint .maximum) n, saying r Nak)
-        ∷ [])
-        (taking (core .speed) r n)
-        ((λ e. tt), ((λ e. tt), ((λ e. tt), ((λ e. tt), tt))))
-        (λ p. acceptance-within (taken r n))
+        after-out-by r (λ (t : Turn). SaysWithin (t .says) M) toggle n (core .speed)
+        (record {
+          out-stall = tt;
+          out-repeat = λ e. tt;
+          out-no-buffer = λ e. tt;
+          out-too-long = λ e. tt;
+          out-take = λ h a. accepted-by (λ (x : Says). SaysWithin x M) tt tt (core .speed) (taken r n);
+        })
 
     data-says : (x : Stage) (y : Verdict) (n : ℕ) → SaysWithin (dataTurn (core .speed) x r y n .says) M
     data-says x y n =
@@ -189,33 +162,15 @@ module _ (core : Core) (w : Sound core) (i : ℕ) where
         (n, omega (arith, m))
 
     in-within : SaysWithin (onIn i r .says) M
-    unfolding onIn
     in-within =
-        answered (λ (t : Turn). SaysWithin (t .says) M)
-        ((isHalted (r .condition), saying r Stall) ∷ (not (active In r), saying r Nak) ∷ [])
-        (sending i r)
-        ((λ e. tt), ((λ e. tt), tt))
-        (λ p. sending-within (not-false (active In r) (p .1 .0)))
+        in-by r (λ (t : Turn). SaysWithin (t .says) M) i (record { in-stall = tt; in-nak = λ a. tt; in-send = sending-within })
 
   setup-within : SaysWithin (onSetup i r .says) M
-  unfolding onSetup
-  setup-within = pick (isControl (r .endpoint .kind))
-    where
-      pick : (b : Bool) → SaysWithin (cond b (waiting r (wait.Data i stage.Setup)) (noting r OutOfPlace) .says) M
-      pick true = tt
-      pick false = tt
+  setup-within = setup-by r (λ (t : Turn). SaysWithin (t .says) M) i (record { at-control = λ c. tt; elsewhere = tt })
 
   ping-within : SaysWithin (onPing r .says) M
-  unfolding onPing
   ping-within =
-      answered (λ (t : Turn). SaysWithin (t .says) M)
-      ((isInterrupt (r .endpoint .transfer), noting r OutOfPlace)
-      ∷ (isHalted (r .condition), saying r Stall)
-      ∷ (active Out r, saying r Ack)
-      ∷ [])
-      (saying r Nak)
-      ((λ e. tt), ((λ e. tt), ((λ e. tt), tt)))
-      (λ p. tt)
+      ping-by r (λ (t : Turn). SaysWithin (t .says) M) (record { at-interrupt = tt; ping-stall = tt; ping-ack = λ a. tt; ping-nak = λ a. tt })
 
   turn-within : (a : Asks) → Serving core i (directionOf a) → SaysWithin (turnOf a i r .says) M
   turn-within asks.Out v = tt

@@ -109,6 +109,7 @@ fn sending(i: usize, r: Record) -> Turn
     let buffer = active::chosen(Direction::In, r);
     let d = update::buffer_of(r, buffer);
     let length = sound::smaller(r.endpoint.maximum, active::left_of(d));
+    let count = length as usize;
     Turn {
         after: update::with_next(r, buffer),
         wait: Wait::Acknowledge {
@@ -120,7 +121,7 @@ fn sending(i: usize, r: Record) -> Turn
         says: Says::Data {
             toggle: r.toggles.in_side,
             from: active::place_of(d),
-            count: length as usize,
+            count,
         },
     }
 }

@@ -1,12 +1,13 @@
 -- `bus::reply::answered` meets its contract: each arm lays the bytes that are said. Assumes nothing.
-use mathlib.Core.Path.{_∙_, sym, ap}
+use mathlib.Core.Path.{refl, _∙_, sym, ap}
 use lib.ListN.{length}
 use Rattle.wire.specs.Pid.{pidByte}
 use Rattle.bus.specs.declared.Answer.the-variants.{Reply}
 use Rattle.bus.specs.declared.turn.Says.{Says}
+use Rattle.bus.specs.declared.turn.Says.the-variants.{Ack, Nak, Stall, Nyet}
 use Rattle.bus.specs.Turn.{dataPid, said, laid}
 use Rattle.bus.specs.Answers.{answerOf}
-use Rattle.bus.proofs.Laying.{sent-length}
+use Rattle.bus.proofs.Laying.{sent-length, shaken}
 use borrow.Author.Needs.{needs}
 use Rattle.bus.proofs.reply.answered.Statement.{statement}
 use Rattle.bus.proofs.reply.answered.Tie as tie
@@ -60,8 +61,8 @@ returns-2 : tie.Need-returns-2
 unfolding pidByte
 returns-2 c =
     let a = c .before .before .before .before .before .before .before .before .args in
-    let e = sym (c .before .before .before .before .enum-told2 .given .1) in
-    (c .before .before .shake .ensures .0 ∙ ap (λ (s : Says). answerOf s (length (said s (a .memory .now)))) e, c .before .before .shake .ensures .1 ∙ ap (λ (s : Says). laid (said s (a .memory .now)) (a .reply .now)) e)
+    let h = c .before .before .shake in
+    shaken (a .says) Ack (a .memory .now) (a .reply .now) _ (h .result) 210 (c .before .before .before .before .enum-told2 .given .1) refl (λ n. refl) (h .ensures .0) (h .ensures .1)
 
 same-length-2 : tie.Need-same-length-2
 same-length-2 c = search needs
@@ -70,8 +71,8 @@ returns-3 : tie.Need-returns-3
 unfolding pidByte
 returns-3 c =
     let a = c .before .before .before .before .before .before .before .before .args in
-    let e = sym (c .before .before .before .before .enum-told3 .given .1) in
-    (c .before .before .shake2 .ensures .0 ∙ ap (λ (s : Says). answerOf s (length (said s (a .memory .now)))) e, c .before .before .shake2 .ensures .1 ∙ ap (λ (s : Says). laid (said s (a .memory .now)) (a .reply .now)) e)
+    let h = c .before .before .shake2 in
+    shaken (a .says) Nak (a .memory .now) (a .reply .now) _ (h .result) 90 (c .before .before .before .before .enum-told3 .given .1) refl (λ n. refl) (h .ensures .0) (h .ensures .1)
 
 same-length-3 : tie.Need-same-length-3
 same-length-3 c = search needs
@@ -80,8 +81,8 @@ returns-4 : tie.Need-returns-4
 unfolding pidByte
 returns-4 c =
     let a = c .before .before .before .before .before .before .before .before .args in
-    let e = sym (c .before .before .before .before .enum-told4 .given .1) in
-    (c .before .before .shake3 .ensures .0 ∙ ap (λ (s : Says). answerOf s (length (said s (a .memory .now)))) e, c .before .before .shake3 .ensures .1 ∙ ap (λ (s : Says). laid (said s (a .memory .now)) (a .reply .now)) e)
+    let h = c .before .before .shake3 in
+    shaken (a .says) Stall (a .memory .now) (a .reply .now) _ (h .result) 30 (c .before .before .before .before .enum-told4 .given .1) refl (λ n. refl) (h .ensures .0) (h .ensures .1)
 
 same-length-4 : tie.Need-same-length-4
 same-length-4 c = search needs
@@ -90,8 +91,8 @@ returns-5 : tie.Need-returns-5
 unfolding pidByte
 returns-5 c =
     let a = c .before .before .before .before .before .before .before .before .args in
-    let e = sym (c .before .before .before .before .enum-told5 .given .1) in
-    (c .before .before .shake4 .ensures .0 ∙ ap (λ (s : Says). answerOf s (length (said s (a .memory .now)))) e, c .before .before .shake4 .ensures .1 ∙ ap (λ (s : Says). laid (said s (a .memory .now)) (a .reply .now)) e)
+    let h = c .before .before .shake4 in
+    shaken (a .says) Nyet (a .memory .now) (a .reply .now) _ (h .result) 150 (c .before .before .before .before .enum-told5 .given .1) refl (λ n. refl) (h .ensures .0) (h .ensures .1)
 
 same-length-5 : tie.Need-same-length-5
 same-length-5 c = search needs

@@ -16,18 +16,18 @@ left-of-requires c κs = search needs
 smaller-requires : tie.Need-smaller-requires
 smaller-requires c κs = search needs
 
+cast-count : tie.Need-cast-count
+cast-count c = search needs
+
 with-next-requires : tie.Need-with-next-requires
 with-next-requires c κs = search needs
 
 place-of-requires : tie.Need-place-of-requires
 place-of-requires c κs = search needs
 
-cast-t12 : tie.Need-cast-t12
-cast-t12 c = search needs
-
 returns : tie.Need-returns
 unfolding sending
-returns c = simp (c .place-of .ensures, c .before .with-next .ensures, c .before .before .smaller .ensures, c .before .before .before .left-of .ensures, c .before .before .before .before .buffer-of .ensures, c .before .before .before .before .before .chosen .ensures)
+returns c = simp (← c .place-of .ensures, c .before .with-next .ensures, c .before .before .smaller .ensures, ← c .before .before .before .left-of .ensures, ← c .before .before .before .before .buffer-of .ensures, ← c .before .before .before .before .before .chosen .ensures)
 
 pub sending-spec : {M : Type 1} → statement M
 sending-spec =
@@ -37,7 +37,7 @@ sending-spec =
     buffer-of-requires
     left-of-requires
     smaller-requires
+    cast-count
     with-next-requires
     place-of-requires
-    cast-t12
     returns)
