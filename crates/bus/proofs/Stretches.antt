@@ -1,7 +1,7 @@
 -- A store writes its stretch and no other byte, and a reply its first bytes and no later one. Assumes nothing.
 use Prim.Native.Nat.{ℕ, _+_, _≤_}
 use native.Mathlib.Omega.{arith}
-use mathlib.Core.Path.{_≡_, refl, sym, _∙_, ap}
+use mathlib.Core.Path.{_≡_, refl, sym, _∙_, ap, subst}
 use mathlib.Core.Bool.{Bool, true, false, cond, false≢true}
 use mathlib.Core.List.{List, [], _++_}
 use lib.Dec.{eqb}
@@ -17,11 +17,13 @@ use Rattle.bus.specs.declared.turn.Store.the-variants.{Nowhere, At}
 use Rattle.bus.specs.declared.turn.Step.{Step}
 use Rattle.bus.specs.Turn.{written, stored, laid}
 use Rattle.bus.specs.Active.{acknowledged}
-use Rattle.bus.specs.Arrival.{isDataFirst, packetStep, timedOut}
-use Rattle.bus.specs.Calls.{lendRefusal, kept, carried, packetOf}
+use Rattle.bus.specs.Arrival.{isDataFirst, packetStep, timedOut, StoreWithin}
+use Rattle.bus.specs.Calls.{Left, lendRefusal, kept, carried, packetOf}
 use Rattle.bus.proofs.Cases.{packet-by}
 use Rattle.bus.proofs.KeepsSound.{timeout-sound}
 use Rattle.bus.proofs.Steps.{idle-stores-nothing}
+use Rattle.bus.proofs.Within.{packet-store-within}
+use Rattle.bus.proofs.Lent.{lent, packet-accepted}
 
 -- ---- the stretch that is written
 
@@ -100,3 +102,12 @@ stored-awaited core w p =
 
     nowhere-at : (place : ℕ) → Nowhere ≡ At place → ⊥
     nowhere-at place e = false≢true (ap is-at e)
+
+-- a call that stores writes the payload at its place, which is of the memory: so `bytes-in-front` and `bytes-behind` speak of it
+pub stored-call : (core : Core) (memory reply p : List ℕ) (place : ℕ) → lendRefusal core memory reply ≡ 0 → packetStep core p .store ≡ At place
+    → (packetOf core memory reply p .memory ≡ written place (payloadOf p) memory) × (place + length (payloadOf p) ≤ length memory)
+stored-call core memory reply p place z e =
+    let l = lent core memory reply z in (
+      ap (λ (x : Left). x .memory) (packet-accepted core memory reply p z) ∙ ap (λ (s : Store). stored s (payloadOf p) memory) e,
+      rw (l .whole) (subst (λ (s : Store). StoreWithin s (length (payloadOf p)) (core .«memory_size»)) e (packet-store-within core (l .sound) p)),
+    )

@@ -1,7 +1,7 @@
 -- What is stored and what is sent is of the memory, and short: the sums that are taken fit their widths. Assumes nothing.
 use Prim.Native.Nat.{ℕ, _+_, _-_, _≤_}
 use native.Mathlib.Omega.{arith}
-use mathlib.Core.Path.{_≡_, refl, subst}
+use mathlib.Core.Path.{_≡_, refl, sym, subst}
 use mathlib.Core.Bool.{Bool, true, false}
 use mathlib.Core.List.{List}
 use lib.ListN.{length, drop, length-take}
@@ -25,6 +25,7 @@ use Rattle.bus.specs.declared.active.Direction.the-variants.{Out, In}
 use Rattle.bus.specs.declared.token.Asks.{Asks}
 use Rattle.bus.specs.declared.token.Asks.the-variants as asks
 use Rattle.bus.specs.declared.idle.Met.the-variants.{Nothing}
+use Rattle.bus.specs.declared.turn.Store.{Store}
 use Rattle.bus.specs.declared.turn.Says.{Says}
 use Rattle.bus.specs.declared.turn.Turn.{Turn}
 use Rattle.bus.specs.declared.turn.Step.{Step}
@@ -39,6 +40,7 @@ use Rattle.bus.proofs.Descriptors.{done-small, out-room, in-room, sent-
 use Rattle.bus.proofs.Serving.{Serving, awaiting, its-sound, out-chosen, control-out, in-chosen}
 use Rattle.bus.proofs.Turns.{ping-by, setup-by, in-by, after-setup-by, after-out-by, accepted-by}
 use Rattle.bus.proofs.Cases.{data-by, no-wait-by, packet-by}
+use Rattle.bus.proofs.Steps.{idle-stores-nothing}
 use Rattle.bus.proofs.KeepsSound.{timeout-sound}
 
 -- ---- the payload
@@ -207,3 +209,14 @@ says-within core w p =
 -- the same of the step that was taken, and of the memory that was lent
 pub said-within : (core : Core) → Sound core → (p : List ℕ) (x : Step) → x ≡ packetStep core p → (n : ℕ) → n ≡ core .«memory_size» → SaysWithin (x .says) n
 said-within core w p x e n m = rw (e, m) (says-within core w p)
+
+-- what a packet stores is of the memory
+pub packet-store-within : (core : Core) → Sound core → (p : List ℕ) → StoreWithin (packetStep core p .store) (length (payloadOf p)) (core .«memory_size»)
+unfolding dataStep acknowledged
+packet-store-within core w p =
+    packet-by core p (λ (x : Step). StoreWithin (x .store) (length (payloadOf p)) (core .«memory_size»)) w
+    (record {
+      awaited-data = λ i s e d x. store-within core w i (awaiting core i s x) s (x .1) (verdictOf p) (length (payloadOf p));
+      awaited-ack = λ i b n e a x. tt;
+      idle = λ e. subst (λ (x : Store). StoreWithin x (length (payloadOf p)) (core .«memory_size»)) (sym (idle-stores-nothing (timedOut core) (timeout-sound core w) p)) tt;
+    })
