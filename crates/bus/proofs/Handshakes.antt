@@ -1,4 +1,4 @@
--- What a handshake tells: ACK and NYET, that the payload is stored or was before; NAK, that there is no active buffer or the payload is too
+-- What a handshake tells: ACK and NYET, that the payload is stored or its PID is not the toggle; NAK, that there is no active buffer or the payload is too
 -- long. Assumes nothing.
 use Prim.Native.Nat.{ℕ, _<_}
 use native.Mathlib.Omega.{arith}
@@ -71,7 +71,7 @@ pub record StoredAt (x : Store) : Type 0 where
   pub place : ℕ
   pub is-there : x ≡ At place
 
--- the packet repeats one that was taken: its PID is not the toggle
+-- its PID is not the toggle: all that one call knows of a repeat. That the payload was stored before is a statement over many calls
 pub record Repeats (r : Record) (s : Stage) (p : List ℕ) : Type 0 where
   pub after-out : s ≡ stage.Out
   pub other-toggle : verdictOf p ≡ verdict.Good (kindOfToggle (not (r .toggles .«out_side»)))
@@ -102,7 +102,7 @@ module _ (core : Core) (r : Record) (p : List ℕ) where
   staged-accounted stage.Setup toggle n e = setup-accounted toggle n
   staged-accounted stage.Out toggle n e = out-accounted toggle n e
 
--- data that are met with ACK or NYET are stored, or repeat what was taken before
+-- data that are met with ACK or NYET are stored, or come after OUT under the PID that is not the toggle
 pub acknowledged-stored : (core : Core) (i : ℕ) (s : Stage) (p : List ℕ) → core .wait ≡ wait.Data i s → isDataFirst p ≡ true → Positive (packetStep core p .says) → StoredAt (packetStep core p .store) ⊎ Repeats (recordAt core i) s p
 unfolding dataStep
 acknowledged-stored core i s p e d =
