@@ -192,7 +192,7 @@ fn has_event(e: RecordEvents) -> bool
         | e.short_packet
 }
 
-fn is_zero(r: Record) -> bool
+pub fn is_zero(r: Record) -> bool
     ensures { λ z. ⌜ z ≡ isZero r ⌝ }
 {
     let endpoint = r.endpoint;
