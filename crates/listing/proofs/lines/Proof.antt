@@ -1,0 +1,68 @@
+-- `listing::lines` is safe and ends: each turn goes past the end of a line, or the end of the text. Assumes nothing.
+use Prim.Native.Nat.{_-_}
+use lib.ListN.{length}
+use native.Mathlib.Omega.{arith}
+use borrow.Author.Needs.{needs}
+use Rattle.listing.proofs.lines.Statement.{statement}
+use Rattle.listing.proofs.lines.Tie as tie
+
+abbrev Inv-loop : tie.InvT-loop
+Inv-loop memory₀ packet₀ text now₀ at₀ memory packet now at = Unit {0}
+
+abbrev μ-loop : tie.MeasureT-loop
+μ-loop memory₀ packet₀ text now₀ at₀ memory packet now at = length text - at
+
+loop-holds : tie.Need-loop-holds Inv-loop μ-loop
+loop-holds c = tt
+
+find-requires : tie.Need-find-requires Inv-loop μ-loop
+find-requires c κs = search needs
+
+sub-taken : tie.Need-sub-taken Inv-loop μ-loop
+sub-taken c = search needs
+
+part-taken-start : tie.Need-part-taken-start Inv-loop μ-loop
+part-taken-start c = search needs
+
+part-taken-end : tie.Need-part-taken-end Inv-loop μ-loop
+part-taken-end c = search needs
+
+taken-requires : tie.Need-taken-requires Inv-loop μ-loop
+taken-requires c κs = search needs
+
+answered-requires : tie.Need-answered-requires Inv-loop μ-loop
+answered-requires c κs = search needs
+
+returns : tie.Need-returns Inv-loop μ-loop
+returns c = search needs
+
+add-at : tie.Need-add-at Inv-loop μ-loop
+add-at c = omega (arith, c .before .before .before .before .before .before .find .ensures .1, c .before .before .before .before .before .before .before .before .before .before .good)
+
+loop-less : tie.Need-loop-less Inv-loop μ-loop
+loop-less c = search needs
+
+loop-again : tie.Need-loop-again Inv-loop μ-loop
+loop-again c = tt
+
+returns-2 : tie.Need-returns-2 Inv-loop μ-loop
+returns-2 c = search needs
+
+pub lines-spec : {M : Type 1} → statement M
+lines-spec =
+    tie.close
+    (tie.spec
+    Inv-loop
+    μ-loop
+    loop-holds
+    find-requires
+    sub-taken
+    part-taken-start
+    part-taken-end
+    taken-requires
+    answered-requires
+    returns
+    add-at
+    loop-less
+    loop-again
+    returns-2)

@@ -1,0 +1,3 @@
+pub mod Capture
+pub mod Listing
+pub mod SetUp
