@@ -8,10 +8,10 @@ use borrow.Author.Tests.{ltb-false, lt-ltb, eqb-true, eqb-false}
 use Rattle.laws.proofs.Bools.{both, neither}
 use Rattle.state.specs.declared.Descriptor.{Descriptor}
 use Rattle.state.specs.declared.Descriptor.the-variants.{Unallocated, Armed}
-use Rattle.state.specs.Ranges.{noMultiple, misplaced, markFits, DescriptorSound, isUnused}
+use Rattle.state.specs.Ranges.{noMultiple, misplaced, markFits, DescriptorSound, isUnused, doneOf}
 use Rattle.state.specs.Spans.{spansIn}
 use Rattle.state.specs.Sound.{sends}
-use Rattle.bus.specs.Active.{leftOf, doneOf, placeOf, grown, spent}
+use Rattle.bus.specs.Active.{leftOf, placeOf, grown, spent}
 
 -- the span is of the memory, and short
 placed-within : (M : ℕ) (out : Bool) (maximum base length : ℕ) → misplaced M out maximum base length ≡ false → (length ≤ 16383) × (base + length ≤ M)

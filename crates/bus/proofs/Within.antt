@@ -18,7 +18,7 @@ use Rattle.state.specs.declared.Wait.{Wait}
 use Rattle.state.specs.declared.Wait.the-variants as wait
 use Rattle.state.specs.declared.Core.{Core}
 use Rattle.state.specs.Update.{bufferOf, recordAt}
-use Rattle.state.specs.Ranges.{isControl, outSide, DescriptorSound, LiveSound, isUnused}
+use Rattle.state.specs.Ranges.{isControl, outSide, DescriptorSound, LiveSound, isUnused, doneOf}
 use Rattle.state.specs.Sound.{sends, DataWait, WaitSound, Sound}
 use Rattle.state.proofs.Kept.{buffer-sound}
 use Rattle.bus.specs.declared.active.Direction.the-variants.{Out, In}
@@ -29,7 +29,7 @@ use Rattle.bus.specs.declared.turn.Store.{Store}
 use Rattle.bus.specs.declared.turn.Says.{Says}
 use Rattle.bus.specs.declared.turn.Turn.{Turn}
 use Rattle.bus.specs.declared.turn.Step.{Step}
-use Rattle.bus.specs.Active.{chosen, active, doneOf, placeOf, Roomy, acknowledged}
+use Rattle.bus.specs.Active.{chosen, active, placeOf, Roomy, acknowledged}
 use Rattle.bus.specs.Tokens.{directionOf, onSetup, onPing, sending, onIn, turnOf}
 use Rattle.bus.specs.Data.{taken, taking, afterOut, settingUp, afterSetup, staged, dataTurn}
 use Rattle.bus.specs.Idle.{noWait}

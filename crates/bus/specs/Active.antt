@@ -9,7 +9,7 @@ use Rattle.state.specs.declared.Descriptor.{Descriptor}
 use Rattle.state.specs.declared.Descriptor.the-variants.{Unallocated, Armed}
 use Rattle.state.specs.declared.Record.{Record}
 use Rattle.state.specs.Update.{withNext, withEvents, withToggles, noted, bufferOf, withBuffer}
-use Rattle.state.specs.Ranges.{isControl, isArmed, isUnused}
+use Rattle.state.specs.Ranges.{isControl, isArmed, isUnused, doneOf}
 use Rattle.state.specs.Served.{servesOut, servesIn}
 use Rattle.bus.specs.declared.active.Direction.{Direction}
 use Rattle.bus.specs.declared.active.Direction.the-variants.{Out, In}
@@ -46,10 +46,6 @@ active direction r = isUnused (chosenBuffer direction r)
 abbrev pub leftOf : Descriptor → ℕ
 leftOf Unallocated = 0
 leftOf (Armed base length done used) = length - done
-
-abbrev pub doneOf : Descriptor → ℕ
-doneOf Unallocated = 0
-doneOf (Armed base length done used) = done
 
 -- the place from base + done
 abbrev pub placeOf : Descriptor → ℕ

@@ -12,7 +12,8 @@ use state::sound;
 use state::update;
 ghost use mathlib.Core.Path.{_≡_};
 ghost use Prim.Native.Nat.{_+_, _<_};
-ghost use Rattle.bus.specs.Active.{isIn, serves, chosen, chosenBuffer, active, leftOf, placeOf, doneOf, grown, spent, usedEvent, usedUp, filled, flippedIn, acknowledged, Roomy};
+ghost use Rattle.state.specs.Ranges.{doneOf};
+ghost use Rattle.bus.specs.Active.{isIn, serves, chosen, chosenBuffer, active, leftOf, placeOf, grown, spent, usedEvent, usedUp, filled, flippedIn, acknowledged, Roomy};
 
 // OUT, SETUP and PING look on the OUT side.
 pub(crate) enum Direction {

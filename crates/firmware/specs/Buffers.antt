@@ -9,7 +9,7 @@ use Rattle.state.specs.declared.Descriptor.{Descriptor}
 use Rattle.state.specs.declared.Descriptor.the-variants.{Unallocated, Armed}
 use Rattle.state.specs.declared.Core.{Core}
 use Rattle.state.specs.Update.{bufferOf, withBuffer, recordAt, withRecord}
-use Rattle.state.specs.Ranges.{live, outSide, misplaced, isArmed, isUnused}
+use Rattle.state.specs.Ranges.{live, outSide, misplaced, isArmed, isUnused, doneOf}
 use Rattle.state.specs.Spans.{spanFrom, apart, armedSpans}
 use Rattle.firmware.specs.declared.answer.Outcome.{Outcome}
 use Rattle.firmware.specs.Answers.{judged, settled}
@@ -56,10 +56,6 @@ disarmTests core i buffer =
     ∷ [])
 
 -- disarm returns done
-abbrev pub doneOf : Descriptor → ℕ
-doneOf Unallocated = 0
-doneOf (Armed base length done used) = done
-
 unfoldable pub disarmOf : Core → ℕ → ℕ → Outcome
 disarmOf core i buffer =
     settled (judged (disarmTests core i buffer)) core

@@ -9,17 +9,8 @@ use state::sound;
 use state::spans;
 use state::update;
 ghost use mathlib.Core.Path.{_≡_};
-ghost use Rattle.firmware.specs.Buffers.{sharesByte, armTests, armOf, doneOf, disarmTests, disarmOf};
+ghost use Rattle.firmware.specs.Buffers.{sharesByte, armTests, armOf, disarmTests, disarmOf};
 ghost use Rattle.firmware.specs.Answers.{judged};
-
-fn done_of(d: Descriptor) -> u32
-    ensures { λ n. ⌜ n ≡ doneOf d ⌝ }
-{
-    match d {
-        Descriptor::Unallocated => 0,
-        Descriptor::Armed { done, .. } => done,
-    }
-}
 
 fn shares_byte(core: Core, index: usize, second: bool, base: u32, length: u32) -> bool
     ensures { λ b. ⌜ b ≡ sharesByte core index second base length ⌝ }
@@ -118,6 +109,6 @@ pub fn disarm(core: Core, index: usize, buffer: u32) -> Outcome
     let second = buffer == 1;
     let r = update::record_at(core, index);
     let next = update::with_buffer(r, second, Descriptor::Unallocated);
-    let done = done_of(update::buffer_of(r, second));
+    let done = range::done_of(update::buffer_of(r, second));
     answer::settle(refusal, core, update::with_record(core, index, next), done)
 }

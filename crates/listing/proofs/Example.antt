@@ -7,7 +7,7 @@ use Rattle.wire.specs.Crc.{step, after, bits, sent, check}
 use Rattle.wire.specs.Pid.{kindOf, pidOf, pidByte}
 use Rattle.wire.specs.Token.{tokenOf}
 use Rattle.wire.specs.Data.{packet, stretch, checkSent, rightCheck, verdictOf, payloadOf}
-use Rattle.state.specs.Ranges.{endpointFits, misplaced, markFits, liveFits, isZero, recordFits}
+use Rattle.state.specs.Ranges.{endpointFits, misplaced, markFits, liveFits, isZero, recordFits, doneOf}
 use Rattle.state.specs.Served.{beside}
 use Rattle.state.specs.Spans.{shareByte}
 use Rattle.state.specs.Sound.{isSound}
@@ -19,7 +19,6 @@ use Rattle.bus.specs.Idle.{meeting, noWait}
 use Rattle.bus.specs.Arrival.{isDataFirst, isAck, missed, dataStep, timedOut, fulfilled, packetStep}
 use Rattle.state.specs.declared.Core.{Core}
 use Rattle.state.specs.Update.{recordAt}
-use Rattle.firmware.specs.Buffers.{doneOf}
 use Rattle.bus.specs.Answers.{replied}
 use Rattle.bus.specs.Calls.{Left, packetOf}
 use Rattle.listing.specs.SetUp.{setUp}

@@ -4,17 +4,17 @@ use firmware::Outcome;
 use hex::Line;
 use state::Condition;
 use state::Core;
-use state::Descriptor;
 use state::Kind;
 use state::Speed;
 use state::Transfer;
+use state::range;
 use state::update;
 ghost use mathlib.Core.Path.{_≡_};
 ghost use mathlib.Core.List.{List, [], _++_};
 ghost use Prim.Native.Nat.{ℕ, _+_, min};
 ghost use lib.ListN.{length};
 ghost use Rattle.state.specs.Update.{recordAt};
-ghost use Rattle.firmware.specs.Buffers.{doneOf};
+ghost use Rattle.state.specs.Ranges.{doneOf};
 ghost use Rattle.firmware.specs.Records.{configureOf};
 ghost use Rattle.hex.specs.Line.{bytesOf};
 ghost use Rattle.listing.specs.Listing.{Taken};
@@ -107,14 +107,6 @@ pub fn done(core: Core, index: usize) -> u32
     ensures { λ n. ⌜ n ≡ doneOf (recordAt core index .first) ⌝ }
 {
     let r = update::record_at(core, index);
-    let d = r.first;
-    match d {
-        Descriptor::Armed {
-            base: _,
-            length: _,
-            done,
-            used: _,
-        } => done,
-        Descriptor::Unallocated => 0,
-    }
+    let first = r.first;
+    range::done_of(first)
 }

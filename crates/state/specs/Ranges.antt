@@ -112,6 +112,11 @@ abbrev pub isUnused : Descriptor → Bool
 isUnused Unallocated = false
 isUnused (Armed base length done used) = not used
 
+-- what is done of it
+abbrev pub doneOf : Descriptor → ℕ
+doneOf Unallocated = 0
+doneOf (Armed base length done used) = done
+
 -- ---- records
 
 -- a live record within the ranges above

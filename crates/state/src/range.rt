@@ -10,7 +10,7 @@ use crate::Toggles;
 use crate::Transfer;
 ghost use mathlib.Core.Path.{_≡_};
 ghost use mathlib.Core.Bool.{not};
-ghost use Rattle.state.specs.Ranges.{live, isControl, isControlType, smallSize, maximumFits, endpointFits, togglesFit, outSide, noMultiple, misplaced, markFits, descriptorFits, isArmed, isUnused, liveFits, anyEvent, isZero, recordFits};
+ghost use Rattle.state.specs.Ranges.{live, isControl, isControlType, smallSize, maximumFits, endpointFits, togglesFit, outSide, noMultiple, misplaced, markFits, descriptorFits, isArmed, isUnused, doneOf, liveFits, anyEvent, isZero, recordFits};
 
 pub fn is_live(condition: Condition) -> bool
     ensures { λ r. ⌜ r ≡ live condition ⌝ }
@@ -177,6 +177,15 @@ pub fn is_unused(d: Descriptor) -> bool
     match d {
         Descriptor::Unallocated => false,
         Descriptor::Armed { used, .. } => !used,
+    }
+}
+
+pub fn done_of(d: Descriptor) -> u32
+    ensures { λ n. ⌜ n ≡ doneOf d ⌝ }
+{
+    match d {
+        Descriptor::Unallocated => 0,
+        Descriptor::Armed { done, .. } => done,
     }
 }
 
