@@ -13,7 +13,7 @@ use Rattle.script.specs.Words.{inFront, wordsOf, nth, wordAt, same}
 
 -- ---- how many
 
-some : (line : List ℕ) → 0 < length (wordsOf line)
+pub some : (line : List ℕ) → 0 < length (wordsOf line)
 unfolding wordsOf
 some [] = omega arith
 some (c ∷ rest) = pick (eqb c 32) (wordsOf rest)

@@ -1,3 +1,5 @@
+pub mod Holding
+pub mod Intake
 pub mod Numbers
 pub mod Text
 pub mod Words

@@ -1,19 +1,27 @@
--- `script::intake::taken` is safe and ends: each turn goes past a space, or the end of the part. Assumes nothing.
-use Prim.Native.Nat.{_-_}
+-- `script::intake::taken` meets its contract: each turn takes the characters up to the next space, and the space, or the rest of the part.
+-- The measure is what is left of the part. Assumes nothing.
+use Prim.Native.Nat.{ℕ, _-_, _≤_}
+use native.Mathlib.Omega.{arith}
 use mathlib.Core.Path.{_≡_, refl}
-use lib.ListN.{length}
+use mathlib.Core.Logic.{⊎-elim}
+use mathlib.Core.List.{List, _++_, append-nil}
+use lib.ListN.{length, take}
+use Rattle.hex.proofs.Lines.{whole-part}
+use Rattle.script.specs.Intake.{Stands}
+use Rattle.script.proofs.Parting.{run-unspaced, run-and-space, run-alone}
 use borrow.Author.Needs.{needs}
 use Rattle.script.proofs.intake.taken.Statement.{statement}
 use Rattle.script.proofs.intake.taken.Tie as tie
 
 abbrev Inv-loop : tie.InvT-loop
-Inv-loop kept₀ buffer₀ part now₀ at₀ kept buffer now at = length buffer ≡ length buffer₀
+Inv-loop kept₀ buffer₀ part now₀ at₀ kept buffer now at =
+    (length buffer ≡ length buffer₀) × ((line : List ℕ) → Stands line now₀ kept₀ buffer₀ → Stands (line ++ take at part) now kept buffer)
 
 abbrev μ-loop : tie.MeasureT-loop
 μ-loop kept₀ buffer₀ part now₀ at₀ kept buffer now at = length part - at
 
 loop-holds : tie.Need-loop-holds Inv-loop μ-loop
-loop-holds c = refl
+loop-holds c = (refl, λ line h. rw append-nil h)
 
 find-requires : tie.Need-find-requires Inv-loop μ-loop
 find-requires c κs = search needs
@@ -40,13 +48,23 @@ loop-less : tie.Need-loop-less Inv-loop μ-loop
 loop-less c = search needs
 
 loop-again : tie.Need-loop-again Inv-loop μ-loop
-loop-again c = search needs
+loop-again c =
+    let spoken = c .before .before .before .spoken in
+    let find = c .before .before .before .before .before .before .before .find in
+    let l = c .before .before .before .before .before .before .before .before .before .loop in
+    let part = c .before .before .before .before .before .before .before .before .before .before .before .before .args .part .now in
+    let within : l .at ≤ length part = omega arith in
+    let run = run-unspaced part (l .at) (find .result) within (find .ensures .0) in
+    ⊎-elim
+    (λ w. (omega arith, λ line h. rw (w .3, w .4) (rw⁻¹ (run-and-space part (l .at) (find .result) within (find .ensures .0) (w .0 .taken) line) (w .2 .ensures _ _ (spoken .ensures _ run (l .inv .1 line h))))))
+    (λ w. (omega arith, λ line h. rw (w .1, w .2) (rw⁻¹ (run-alone part (l .at) (find .result) within (find .ensures .0) (w .0 .left) line) (spoken .ensures _ run (l .inv .1 line h)))))
+    (c .if1 .came)
 
 same-length : tie.Need-same-length Inv-loop μ-loop
 same-length c = search needs
 
 returns : tie.Need-returns Inv-loop μ-loop
-returns c = search needs
+returns c = λ line h. rw (whole-part line _ _ (c .loop-test .left)) at (c .before .loop .inv .1 line h)
 
 pub taken-spec : {M : Type 1} → statement M
 taken-spec =
