@@ -22,7 +22,7 @@ onLast run [] = []
 onLast run (word ∷ []) = (word ++ run) ∷ []
 onLast run (word ∷ next ∷ words) = word ∷ onLast run (next ∷ words)
 
-one-word : (run : List ℕ) → unspaced run ≡ true → wordsOf run ≡ run ∷ []
+pub one-word : (run : List ℕ) → unspaced run ≡ true → wordsOf run ≡ run ∷ []
 unfolding wordsOf
 one-word [] h = refl
 one-word (c ∷ run) h =

@@ -4,7 +4,7 @@ use native.Mathlib.Omega.{arith}
 use native.Mathlib.Decide.{decLe}
 use native.Mathlib.Numerals.{add-one}
 use mathlib.Core.Path.{_≡_, refl, sym, ap, _∙_}
-use mathlib.Core.Bool.{Bool, true, false, _&&_}
+use mathlib.Core.Bool.{false, and-true}
 use mathlib.Core.List.{List, [], _∷_, _++_, append-assoc, append-nil}
 use lib.Dec.{eqb}
 use lib.ListN.{length, getD, take, set, length-append, length-take, length-set}
@@ -76,10 +76,6 @@ module _ (front word : List ℕ) (end from : ℕ) (kept : List ℕ) (h : Holds f
         pick : (list : List ℕ) → word ≡ list → eqb (getD kept from 0) c ≡ same list (c ∷ [])
         pick [] k = absurd (omega (arith, h .count near, h .start, ap length k))
         pick (x ∷ []) k = rw (first-at x k) (sym (and-true (eqb x c)))
-          where
-            and-true : (t : Bool) → (t && true) ≡ t
-            and-true true = refl
-            and-true false = refl
         pick (x ∷ y ∷ rest) k = absurd (omega (arith, h .count near, h .start, ap length k))
 
     pub only-not : (c : ℕ) → (end ≡ from + 1 → ⊥) → same word (c ∷ []) ≡ false

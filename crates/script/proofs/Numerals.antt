@@ -14,7 +14,7 @@ use Rattle.laws.proofs.Bools.{both}
 use Rattle.script.specs.Numbers.{isDecimal, valueFrom, largest, numberFrom, numberOf, appendedOf}
 use Rattle.script.specs.declared.number.Number.the-variants.{Value, Other}
 
-grows : (n : ℕ) (word : List ℕ) → n ≤ valueFrom n word
+pub grows : (n : ℕ) (word : List ℕ) → n ≤ valueFrom n word
 grows n [] = omega arith
 grows n (c ∷ rest) = omega (arith, grows (n * 10 + (c - 48)) rest)
 

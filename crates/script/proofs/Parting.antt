@@ -33,10 +33,6 @@ space-at (c ∷ rest) h = pick (eqb c 32) refl h (space-at rest)
 
 -- a loop has come to `at`, and the next space stands at `end`
 module _ (part : List ℕ) (at end : ℕ) (within : at ≤ length part) (found : end ≡ at + indexOf 32 (slice at (length part) part)) where
-  -- the characters up to it
-  abbrev run : List ℕ
-  run = take (end - at) (drop at part)
-
   size : end - at ≡ indexOf 32 (drop at part)
   unfolding slice
   size = let ahead : end ≡ at + indexOf 32 (drop at part) = rw (take-length part) at found in omega arith

@@ -2,7 +2,7 @@
 use Prim.Native.Nat.{ℕ, zero, suc, _+_, _≤_, _<_, min}
 use native.Mathlib.Omega.{arith}
 use mathlib.Core.Path.{_≡_, refl, sym, ap, _∙_}
-use mathlib.Core.Bool.{Bool, true, false, _&&_, _||_}
+use mathlib.Core.Bool.{Bool, true, false, _&&_, _||_, and-false}
 use mathlib.Core.List.{List, [], _∷_, _++_}
 use lib.Dec.{eqb, ltb}
 use lib.ListN.{length, take, set, length-append, length-take}
@@ -15,7 +15,7 @@ use Rattle.script.specs.Words.{wordsOf, same}
 use Rattle.script.specs.Intake.{shortened, shortOf, keptOf, isBytes, Stands}
 use Rattle.script.specs.Holding.{Holds, unspaced}
 use Rattle.script.specs.declared.intake.Intake.{Intake}
-use Rattle.script.proofs.Shortening.{and-false, zero-replaced, one-appended, none-appended, shortened-some, shortened-none}
+use Rattle.script.proofs.Shortening.{zero-replaced, one-appended, none-appended, shortened-some, shortened-none}
 use Rattle.script.proofs.Kept.{name-kept}
 use Rattle.script.proofs.Keeping.{word-replaced, word-longer, next-word}
 use Rattle.script.proofs.Appending.{frontOf, wordOf, short-parts, front-longer, front-ended, word-ended, short-some, last-near}
@@ -115,12 +115,15 @@ module _ (line : List ℕ) (intake : Intake) (kept buffer : List ℕ) (h : Stand
   near : intake .start < 136
   near = omega (arith, holds line intake kept buffer h .start, last-near line few)
 
+  word-length : intake .length ≡ intake .start + length (shortened (wordOf line))
+  word-length = omega (arith, near, holds line intake kept buffer h .start, holds line intake kept buffer h .count near)
+
   pub good-bytes : isGood (wordOf line) ≡ true → ltb (intake .start) (intake .length) ≡ isBytes (wordOf line)
   good-bytes e = pick (length (shortened (wordOf line))) refl ∙ sym (bytes-good (wordOf line) e)
     where
       pick : (n : ℕ) → length (shortened (wordOf line)) ≡ n → ltb (intake .start) (intake .length) ≡ ltb 0 n
-      pick zero k = le-ltb (intake .start) (intake .length) (omega (arith, near, holds line intake kept buffer h .start, holds line intake kept buffer h .count near))
-      pick (suc n) k = lt-ltb (intake .start) (intake .length) (omega (arith, near, holds line intake kept buffer h .start, holds line intake kept buffer h .count near)) ∙ sym (lt-ltb 0 (suc n) (omega arith))
+      pick zero k = le-ltb (intake .start) (intake .length) (omega (arith, word-length))
+      pick (suc n) k = lt-ltb (intake .start) (intake .length) (omega (arith, word-length)) ∙ sym (lt-ltb 0 (suc n) (omega arith))
 
   pub other-bytes : (only : Bool) → isGood (wordOf line) ≡ false → only ≡ (ltb (intake .start) 136 && same (shortened (wordOf line)) (45 ∷ [])) → only ≡ isBytes (wordOf line)
   other-bytes only e k = k ∙ rw (lt-ltb (intake .start) 136 near) (sym (bytes-other (wordOf line) e))
