@@ -1,27 +1,23 @@
-use borrow.Author.Needs.{needs}
-use Rattle.script.proofs.intake.keep.Statement.{statement}
-use Rattle.script.proofs.intake.keep.Tie as tie
+-- `script::intake::keep` meets its contract: where there is no room, a store would change nothing. Assumes nothing.
 use mathlib.Core.Path.{sym}
 use native.Mathlib.Omega.{arith}
 use lib.Seq.{set-out}
+use borrow.Author.Needs.{needs}
+use Rattle.script.proofs.intake.keep.Statement.{statement}
+use Rattle.script.proofs.intake.keep.Tie as tie
 
--- src/intake.rt:42:9
 slice-write-kept : tie.Need-slice-write-kept
 slice-write-kept c = search needs
 
--- src/intake.rt:43:16
 add-result : tie.Need-add-result
 add-result c = search needs
 
--- src/intake.rt:43:9
 same-length : tie.Need-same-length
 same-length c = search needs
 
--- src/intake.rt:43:9
 returns : tie.Need-returns
 returns c = search needs
 
--- src/intake.rt:38:1
 returns-2 : tie.Need-returns-2
 returns-2 c = (omega arith, sym (set-out _ _ _ (c .if1 .left)))
 
