@@ -1,5 +1,5 @@
 -- A line's words, found from space to space; two words held against each other. Assumes nothing.
-use Prim.Native.Nat.{ℕ, suc, _+_, _-_, _≤_, _<_}
+use Prim.Native.Nat.{ℕ, zero, suc, _+_, _-_, _≤_, _<_}
 use native.Mathlib.Omega.{arith}
 use native.Mathlib.Numerals.{add-one}
 use mathlib.Core.Path.{_≡_, refl, sym, ap, _∙_}
@@ -9,7 +9,7 @@ use lib.Dec.{eqb}
 use lib.ListN.{length, getD, take, drop, drop-of-length-le, length-drop}
 use lib.Seq.{drop-cons, take-length, drop-drop}
 use Rattle.bytes.specs.Bytes.{slice, indexOf, indexAfter}
-use Rattle.script.specs.Words.{inFront, wordsOf, nth, wordAt, same}
+use Rattle.script.specs.Words.{inFront, wordsOf, nth, wordAt, same, placeOf}
 
 -- ---- how many
 
@@ -122,3 +122,26 @@ module _ (a b : List ℕ) (i : ℕ) (inv : same a b ≡ same (drop i a) (drop i 
 
   pub same-end : length a ≤ i → length b ≤ i → same a b ≡ true
   same-end h k = inv ∙ rw (drop-of-length-le a h, drop-of-length-le b k)
+
+-- ---- the place among names
+
+pub nth-drop : (names : List (List ℕ)) (k : ℕ) → k < length names → drop k names ≡ nth k names ∷ drop (suc k) names
+nth-drop [] k h = absurd (omega arith)
+nth-drop (name ∷ names) zero h = refl
+nth-drop (name ∷ names) (suc k) h = nth-drop names k (omega arith)
+
+module _ (word : List ℕ) (names : List (List ℕ)) (i : ℕ) (inv : placeOf word names ≡ i + placeOf word (drop i names)) where
+  pub place-turn : i < length names → same word (nth i names) ≡ false → placeOf word names ≡ i + 1 + placeOf word (drop (i + 1) names)
+  place-turn h e =
+      let step : placeOf word (drop i names) ≡ suc (placeOf word (drop (suc i) names)) = rw (nth-drop names i h, e) in
+      rw (add-one) (omega (arith, inv, step))
+
+  pub place-stop : i < length names → same word (nth i names) ≡ true → placeOf word names ≡ i
+  place-stop h e =
+      let step : placeOf word (drop i names) ≡ 0 = rw (nth-drop names i h, e) in
+      omega (arith, inv, step)
+
+  pub place-end : length names ≤ i → placeOf word names ≡ i
+  place-end h =
+      let step : placeOf word (drop i names) ≡ 0 = rw (drop-of-length-le names h) in
+      omega (arith, inv, step)

@@ -28,3 +28,8 @@ same [] [] = true
 same [] (d ∷ ds) = false
 same (c ∷ cs) [] = false
 same (c ∷ cs) (d ∷ ds) = eqb c d && same cs ds
+
+-- the index of the first name that is the word, or how many there are
+abbrev pub placeOf : List ℕ → List (List ℕ) → ℕ
+placeOf word [] = zero
+placeOf word (name ∷ names) = cond (same word name) zero (suc (placeOf word names))

@@ -18,4 +18,5 @@ pub use text::put_bytes;
 pub use text::put_number;
 pub use words::count;
 pub use words::is;
+pub use words::place;
 pub use words::word;

@@ -4,7 +4,7 @@ ghost use mathlib.Core.Bool.{cond};
 ghost use Prim.Native.Nat.{_≤_};
 ghost use lib.Dec.{eqb};
 ghost use lib.ListN.{length};
-ghost use Rattle.script.specs.Words.{wordsOf, wordAt, same};
+ghost use Rattle.script.specs.Words.{wordsOf, wordAt, same, placeOf};
 
 // How many words more a character makes: one where it is a space.
 fn parts(c: u8) -> usize
@@ -59,4 +59,19 @@ pub fn is(word: &[u8], name: &[u8]) -> bool
         i += 1;
     }
     true
+}
+
+// The index of a word among these names, a line of them, or how many they are where it is none.
+pub fn place(sought: &[u8], names: &[u8]) -> usize
+    ensures { λ r. ⌜ r ≡ placeOf (now (sought .entry)) (wordsOf (now (names .entry))) ⌝ }
+{
+    let many = count(names);
+    let mut i = 0;
+    while i < many {
+        if is(sought, word(names, i)) {
+            return i;
+        }
+        i += 1;
+    }
+    i
 }

@@ -1,17 +1,13 @@
 // The call script: a call a line, and what the core answered to it.
-mod calls;
-mod force;
-mod memory;
-mod named;
+mod forced;
+mod played;
 mod port;
 mod said;
 mod shown;
-mod traffic;
 
 use libc::STDIN_FILENO;
 use libc::STDOUT_FILENO;
 use port::Port;
-use port::Turn;
 use script::Intake;
 ghost use Prim.Native.Nat.{_≤_};
 ghost use lib.ListN.{length};
@@ -31,84 +27,12 @@ fn next(port: Port, open: bool) -> Desk {
     }
 }
 
-// The firmware's calls.
-fn by_firmware(port: Port, line: &[u8], text: &mut [u8; 8704]) -> Turn {
-    let verb = script::word(line, 0);
-    if script::is(verb, b"start") {
-        return calls::start(port, line, text);
+// An empty line, or a remark.
+fn is_silent(line: &[u8]) -> bool {
+    if line.len() == 0 {
+        return true;
     }
-    if script::is(verb, b"configure") {
-        return calls::configure(port, line, text);
-    }
-    if script::is(verb, b"arm") {
-        return calls::arm(port, line, text);
-    }
-    if script::is(verb, b"disarm") {
-        return calls::disarm(port, line, text);
-    }
-    if script::is(verb, b"halt") {
-        return calls::halt(port, line, text);
-    }
-    if script::is(verb, b"clear") {
-        return calls::clear(port, line, text);
-    }
-    if script::is(verb, b"address") {
-        return calls::address(port, line, text);
-    }
-    if script::is(verb, b"events") {
-        return calls::events(port, line, text);
-    }
-    if script::is(verb, b"reset") {
-        return calls::reset(port, line, text);
-    }
-    said::bad(port, text)
-}
-
-// By the first word. `given` says whether the last word is bytes.
-fn played(
-    port: Port,
-    memory: &mut [u8; 131072],
-    reply: &mut [u8; 1040],
-    line: &[u8],
-    given: bool,
-    bytes: &[u8],
-    text: &mut [u8; 8704],
-) -> Turn {
-    let verb = script::word(line, 0);
-    if script::is(verb, b"packet") {
-        return traffic::packet(port, memory, reply, line, given, bytes, text);
-    }
-    if script::is(verb, b"timeout") {
-        return traffic::timeout(port, memory, reply, line, text);
-    }
-    if script::is(verb, b"frame") {
-        return traffic::frame(port, line, text);
-    }
-    if script::is(verb, b"encode") {
-        return traffic::encode(port, reply, line, given, bytes, text);
-    }
-    if script::is(verb, b"decode") {
-        return traffic::decode(port, line, given, bytes, text);
-    }
-    if script::is(verb, b"lend") {
-        return memory::lend(port, line, text);
-    }
-    if script::is(verb, b"fill") {
-        return memory::fill(port, memory, line, given, bytes, text);
-    }
-    if script::is(verb, b"show") {
-        return memory::show(port, memory, line, text);
-    }
-    if script::is(verb, b"reply") {
-        return memory::reply(port, reply, line, text);
-    }
-    if script::is(verb, b"state") {
-        return shown::state(port, line, text);
-    }
-    if script::is(verb, b"force") {
-        return force::played(port, line, text);
-    }
-    by_firmware(port, line, text)
+    line[0] == b'#'
 }
 
 // An answer is one write, so that a host reads it whole.
@@ -128,13 +52,13 @@ fn answered(
     let port = d.port;
     let intake = d.intake;
     let line = script::line(intake, kept);
-    if said::is_silent(line) {
+    if is_silent(line) {
         return next(port, true);
     }
     let mut text = [0u8; 8704];
-    let given = script::is_bytes(intake, kept);
+    let asked = calls::read(line, script::is_bytes(intake, kept));
     let bytes = script::bytes(intake, buffer);
-    let turn = played(port, memory, reply, line, given, bytes, &mut text);
+    let turn = played::played(port, memory, reply, bytes, &mut text, asked);
     let after = turn.port;
     next(after, written(&mut text, turn.said))
 }

@@ -1,7 +1,4 @@
 // The whole state on one line.
-use crate::port::Port;
-use crate::port::Turn;
-use crate::said;
 use state::Condition;
 use state::Core;
 use state::Descriptor;
@@ -180,14 +177,7 @@ fn device(text: &mut [u8; 8704], core: Core) -> usize {
     wait(text, waited, w)
 }
 
-pub fn state(before: Port, line: &[u8], text: &mut [u8; 8704]) -> Turn {
-    let core = before.core;
-    if script::count(line) != 1 {
-        return said::bad(before, text);
-    }
+pub fn state(text: &mut [u8; 8704], core: Core) -> usize {
     let at = device(text, core);
-    Turn {
-        port: before,
-        said: records(text, at, core),
-    }
+    records(text, at, core)
 }

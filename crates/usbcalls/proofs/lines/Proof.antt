@@ -1,10 +1,15 @@
 -- `usbcalls::lines` is safe and ends: each turn goes past the end of a line, or the end of the text. Assumes nothing.
-use native.Mathlib.Omega.{arith}
 use borrow.Author.Needs.{needs}
+use native.Mathlib.Omega.{arith}
 use lib.ListN.{length}
 use Prim.Native.Nat.{_-_}
 use Rattle.usbcalls.proofs.lines.Statement.{statement}
 use Rattle.usbcalls.proofs.lines.Tie as tie
+use Rattle.usbcalls.proofs.lines.Reads as reads
+use Rattle.usbcalls.proofs.lines.Lts as lts
+use Rattle.bytes.proofs.scan.find.Reads as find-reads
+use Rattle.usbcalls.proofs.answered.Reads as answered-reads
+use Rattle.usbcalls.proofs.taken.Reads as taken-reads
 
 abbrev Inv-loop : tie.InvT-loop
 Inv-loop memory₀ reply₀ kept₀ buffer₀ text now₀ at₀ memory reply kept buffer now at = Unit {0}
@@ -37,8 +42,7 @@ returns : tie.Need-returns Inv-loop μ-loop
 returns c = search needs
 
 add-at : tie.Need-add-at Inv-loop μ-loop
-add-at c =
-    omega (arith, c .before .before .before .before .before .before .before .find .ensures .1, c .before .before .before .before .before .before .before .before .before .before .before .pre)
+add-at c = omega (arith, c .before .before .before .before .before .before .before .find .ensures .1, c .before .before .before .before .before .before .before .before .before .before .before .pre)
 
 loop-less : tie.Need-loop-less Inv-loop μ-loop
 loop-less c = search needs

@@ -2,6 +2,11 @@
 use borrow.Author.Needs.{needs}
 use Rattle.usbcalls.proofs.main.Statement.{statement}
 use Rattle.usbcalls.proofs.main.Tie as tie
+use Rattle.usbcalls.proofs.main.Reads as reads
+use Rattle.usbcalls.proofs.main.Lts as lts
+use Rattle.usbcalls.proofs.listen.Reads as listen-reads
+use Rattle.usbcalls.proofs.next.Reads as next-reads
+use Rattle.usbcalls.proofs.port.first.Reads as first-reads
 
 abbrev Inv-loop : tie.InvT-loop
 Inv-loop memory₀ reply₀ kept₀ buffer₀ d₀ turns₀ memory reply kept buffer d turns = Unit {0}

@@ -3,6 +3,11 @@ use borrow.Author.Needs.{needs}
 use Prim.Native.Nat.{_-_}
 use Rattle.usbcalls.proofs.shown.records.Statement.{statement}
 use Rattle.usbcalls.proofs.shown.records.Tie as tie
+use Rattle.usbcalls.proofs.shown.records.Reads as reads
+use Rattle.usbcalls.proofs.shown.records.Lts as lts
+use Rattle.state.proofs.update.record_at.Reads as record-at-reads
+use Rattle.usbcalls.proofs.shown.is_shown.Reads as is-shown-reads
+use Rattle.usbcalls.proofs.shown.record.Reads as record-reads
 
 abbrev Inv-loop : tie.InvT-loop
 Inv-loop text₀ at core end₀ i₀ text end i = Unit {0}

@@ -1,18 +1,16 @@
--- `usbcalls::traffic::timeout` is safe: no more is lent than there is. Assumes nothing.
+-- `usbcalls::played::timeout` is safe: no more is lent than there is. Assumes nothing.
 use mathlib.Core.Path.{sym}
 use lib.Seq.{length-take-le}
 use borrow.Author.Needs.{needs}
-use Rattle.usbcalls.proofs.traffic.timeout.Statement.{statement}
-use Rattle.usbcalls.proofs.traffic.timeout.Tie as tie
-
-count-requires : tie.Need-count-requires
-count-requires c κs = search needs
-
-bad-requires : tie.Need-bad-requires
-bad-requires c κs = search needs
-
-returns : tie.Need-returns
-returns c = search needs
+use Rattle.usbcalls.proofs.played.timeout.Statement.{statement}
+use Rattle.usbcalls.proofs.played.timeout.Tie as tie
+use Rattle.usbcalls.proofs.played.timeout.Reads as reads
+use Rattle.usbcalls.proofs.played.timeout.Lts as lts
+use Rattle.bus.proofs.timeout.Reads as timeout-reads
+use Rattle.usbcalls.proofs.played.refusal_of.Reads as refusal-of-reads
+use Rattle.usbcalls.proofs.port.lent_memory.Reads as lent-memory-reads
+use Rattle.usbcalls.proofs.port.lent_reply.Reads as lent-reply-reads
+use Rattle.usbcalls.proofs.said.number.Reads as number-reads
 
 lent-memory-requires : tie.Need-lent-memory-requires
 lent-memory-requires c κs = search needs
@@ -29,31 +27,24 @@ slice-aggregate-timeout-2 c = sym (length-take-le _ _ (c .before .before .lent-r
 timeout-requires : tie.Need-timeout-requires
 timeout-requires c κs = search needs
 
-with-core-requires : tie.Need-with-core-requires
-with-core-requires c κs = search needs
-
 refusal-of-requires : tie.Need-refusal-of-requires
 refusal-of-requires c κs = search needs
 
-refusal-requires : tie.Need-refusal-requires
-refusal-requires c κs = search needs
+number-requires : tie.Need-number-requires
+number-requires c κs = search needs
 
-returns-2 : tie.Need-returns-2
-returns-2 c = search needs
+returns : tie.Need-returns
+returns c = search needs
 
 pub timeout-spec : {M : Type 1} → statement M
 timeout-spec =
     tie.close
     (tie.spec
-    count-requires
-    bad-requires
-    returns
     lent-memory-requires
     lent-reply-requires
     slice-aggregate-timeout
     slice-aggregate-timeout-2
     timeout-requires
-    with-core-requires
     refusal-of-requires
-    refusal-requires
-    returns-2)
+    number-requires
+    returns)

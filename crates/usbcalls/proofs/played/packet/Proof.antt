@@ -1,18 +1,16 @@
--- `usbcalls::traffic::packet` is safe: no more is lent than there is. Assumes nothing.
+-- `usbcalls::played::packet` is safe: no more is lent than there is. Assumes nothing.
 use mathlib.Core.Path.{sym}
 use lib.Seq.{length-take-le}
 use borrow.Author.Needs.{needs}
-use Rattle.usbcalls.proofs.traffic.packet.Statement.{statement}
-use Rattle.usbcalls.proofs.traffic.packet.Tie as tie
-
-count-requires : tie.Need-count-requires
-count-requires c κs = search needs
-
-bad-requires : tie.Need-bad-requires
-bad-requires c κs = search needs
-
-returns : tie.Need-returns
-returns c = search needs
+use Rattle.usbcalls.proofs.played.packet.Statement.{statement}
+use Rattle.usbcalls.proofs.played.packet.Tie as tie
+use Rattle.usbcalls.proofs.played.packet.Reads as reads
+use Rattle.usbcalls.proofs.played.packet.Lts as lts
+use Rattle.bus.proofs.packet.Reads as packet-reads
+use Rattle.hex.proofs.front.Reads as front-reads
+use Rattle.usbcalls.proofs.port.lent_memory.Reads as lent-memory-reads
+use Rattle.usbcalls.proofs.port.lent_reply.Reads as lent-reply-reads
+use Rattle.usbcalls.proofs.said.reply.Reads as reply-reads
 
 lent-memory-requires : tie.Need-lent-memory-requires
 lent-memory-requires c κs = search needs
@@ -38,11 +36,8 @@ front-requires c κs = search needs
 packet-requires : tie.Need-packet-requires
 packet-requires c κs = search needs
 
-with-core-requires : tie.Need-with-core-requires
-with-core-requires c κs = search needs
-
-replied-requires : tie.Need-replied-requires
-replied-requires c κs = search needs
+reply-requires : tie.Need-reply-requires
+reply-requires c κs = search needs
 
 same-length : tie.Need-same-length
 same-length c = search needs
@@ -50,16 +45,13 @@ same-length c = search needs
 same-length-2 : tie.Need-same-length-2
 same-length-2 c = search needs
 
-returns-2 : tie.Need-returns-2
-returns-2 c = search needs
+returns : tie.Need-returns
+returns c = search needs
 
 pub packet-spec : {M : Type 1} → statement M
 packet-spec =
     tie.close
     (tie.spec
-    count-requires
-    bad-requires
-    returns
     lent-memory-requires
     lent-reply-requires
     slice-relend-prefix-packet
@@ -68,8 +60,7 @@ packet-spec =
     slice-aggregate-packet-2
     front-requires
     packet-requires
-    with-core-requires
-    replied-requires
+    reply-requires
     same-length
     same-length-2
-    returns-2)
+    returns)
