@@ -3,6 +3,7 @@
 use crate::works::Lent;
 
 extern "C" {
+    fn hnitbrek_crc16(payload: *const u8, length: usize) -> u16;
     fn hnitbrek_read(packet: *const u8, length: usize, verdict: &mut u8) -> usize;
     fn hnitbrek_write(
         pid: u32,
@@ -34,6 +35,11 @@ extern "C" {
         reply: *mut u8,
         room: usize,
     ) -> u64;
+}
+
+/// The check of a payload.
+pub fn crc16(payload: &[u8]) -> u16 {
+    unsafe { hnitbrek_crc16(payload.as_ptr(), payload.len()) }
 }
 
 /// The verdict's number and the payload's length.

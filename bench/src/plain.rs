@@ -2,12 +2,18 @@
 
 use crate::works::{Lent, MEMORY_SIZE};
 use second::{
-    packet, Answer, Condition, Configuration, Core, Kind, Plain, Refusal, Speed, Transfer,
+    crc, packet, Answer, Condition, Configuration, Core, Kind, Plain, Refusal, Speed, Transfer,
 };
 use std::hint::black_box;
 
 const OUT: u32 = 1;
 const IN: u32 = 2;
+
+/// The check of a payload, by slicing by eight.
+#[inline(never)]
+pub fn crc16(payload: &[u8]) -> u16 {
+    crc::crc16(payload)
+}
 
 /// The verdict's number and the payload's length.
 #[inline(never)]

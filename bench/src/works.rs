@@ -46,6 +46,7 @@ fn pattern(length: usize) -> Vec<u8> {
 
 pub fn all() -> Vec<Work> {
     let mut works = Vec::new();
+    works.extend([8, 64, 512, 1024].map(check));
     works.extend([8, 64, 512, 1024].map(reader));
     works.extend([8, 64, 512, 1024].map(writer));
     works.push(token());
@@ -66,6 +67,17 @@ fn repeat(times: u32, mut once: impl FnMut() -> u64) -> u64 {
 
 fn pair((number, length): (u8, usize)) -> u64 {
     u64::from(number) << 32 | length as u64
+}
+
+fn check(length: usize) -> Work {
+    let ours = pattern(length);
+    let theirs = ours.clone();
+    Work {
+        name: format!("crc16-{length}"),
+        each: 1,
+        proved: Box::new(move |times, _| repeat(times, || linked::crc16(black_box(&ours)).into())),
+        plain: Box::new(move |times, _| repeat(times, || plain::crc16(black_box(&theirs)).into())),
+    }
 }
 
 fn reader(length: usize) -> Work {

@@ -5,6 +5,7 @@ mod traffic;
 use state::Core;
 use state::sound;
 use state::update;
+use wire::crc;
 use wire::data;
 use wire::data::Written;
 use wire::token;
@@ -12,9 +13,18 @@ use wire::token::Token;
 ghost use mathlib.Core.Path.{_≡_};
 ghost use Prim.Native.Nat.{_≤_};
 ghost use lib.ListN.{length};
+ghost use Rattle.wire.specs.Crc.{crc16};
 ghost use Rattle.wire.specs.Data.{verdictOf, verdictNumber, payloadOf, writeOf, written, refusal, bufferAfter};
 ghost use Rattle.wire.specs.Token.{tokenOf};
 ghost use Rattle.exported.specs.Numbers.{tokenNumber};
+
+// The check of a payload.
+#[no_mangle]
+pub extern "C" fn hnitbrek_crc16(payload: &[u8]) -> u16
+    ensures { λ r. ⌜ r ≡ crc16 (now (payload .entry)) ⌝ }
+{
+    crc::check(payload)
+}
 
 // Reads a data packet: lays down the verdict's number and returns the payload's length.
 #[no_mangle]
