@@ -2,10 +2,12 @@
 use Prim.Native.Nat.{ℕ, _≤_}
 use native.Mathlib.Omega.{arith}
 use mathlib.Core.Path.{_≡_, refl, sym, _∙_, ap, subst}
-use mathlib.Core.List.{List}
-use lib.Dec.{eqb}
+use mathlib.Core.Bool.{Bool, not}
+use mathlib.Core.List.{List, [], _∷_}
+use lib.Dec.{eqb, ltb}
 use lib.ListN.{length}
 use borrow.Author.Tests.{ltb-false, eqb-true, eq-eqb, ne-eqb, not-false}
+use Rattle.laws.specs.Lists.{firstOf}
 use Rattle.laws.proofs.First.{passed}
 use Rattle.wire.specs.Data.{payloadOf}
 use Rattle.state.specs.declared.Core.{Core}
@@ -26,6 +28,10 @@ pub record Lent (core : Core) (memory reply : List ℕ) : Type 0 where
   pub room : 1027 ≤ length reply
 
 module _ (core : Core) (memory reply : List ℕ) where
+  -- the refusal of a verdict on the core that was given
+  pub judged : (n : ℕ) (b : Bool) → n ≡ firstOf ((not b, 1) ∷ (not (eqb (length memory) (core .«memory_size»)), 2) ∷ (ltb (length reply) 1027, 3) ∷ []) 0 → b ≡ isSound core → n ≡ lendRefusal core memory reply
+  judged n b e s = e ∙ ap (λ (x : Bool). firstOf ((not x, 1) ∷ (not (eqb (length memory) (core .«memory_size»)), 2) ∷ (ltb (length reply) 1027, 3) ∷ []) 0) s
+
   pub lent : lendRefusal core memory reply ≡ 0 → Lent core memory reply
   lent e =
       let p = passed (lendTests core (length memory) (length reply)) (omega arith, (omega arith, (omega arith, tt))) e in

@@ -3,6 +3,7 @@ pub mod Pids
 pub mod Laying
 pub mod Turns
 pub mod Descriptors
+pub mod Ending
 pub mod Sizes
 pub mod Moved
 pub mod Serving

@@ -17,6 +17,7 @@ ghost use mathlib.Core.Path.{_≡_};
 ghost use Prim.Native.Nat.{_≤_, _+_};
 ghost use lib.ListN.{length};
 ghost use Rattle.wire.specs.Data.{payloadOf};
+ghost use Rattle.state.specs.declared.Core.{Core};
 ghost use Rattle.bus.specs.Turn.{written, stored};
 ghost use Rattle.bus.specs.Arrival.{isDataFirst, isAck, awaited, missed, timedOut, dataStep, fulfilled, packetStep, StoreWithin, Ready, Awaits};
 
@@ -85,15 +86,23 @@ fn data_step(core: Core, i: usize, stage: Stage, memory: &mut [u8], packet: &[u8
     turn::placed(core, i, turn)
 }
 
+// The record whose wait ends: without a wait an index that no record has.
+fn ending(wait: Wait) -> usize
+    ensures { λ n. ⌜ ((core : Core) → length (core .records) ≡ 16 → core .wait ≡ wait → missed core n ≡ timedOut core) ⌝ }
+{
+    match wait {
+        Wait::Nothing => 16,
+        Wait::Data { record, .. } => record,
+        Wait::Acknowledge { record, .. } => record,
+    }
+}
+
+// One call, whatever the wait: each would copy the core.
 pub(crate) fn timed_out(core: Core) -> Core
     ensures { λ c. ⌜ c ≡ timedOut core ⌝ }
 {
     let wait = core.wait;
-    match wait {
-        Wait::Nothing => core,
-        Wait::Data { record, .. } => missed(core, record),
-        Wait::Acknowledge { record, .. } => missed(core, record),
-    }
+    missed(core, ending(wait))
 }
 
 // Whether the packet is of the kind waited for.

@@ -11,8 +11,11 @@ mod turn;
 use state::Core;
 use state::sound;
 ghost use mathlib.Core.Path.{_≡_};
+ghost use mathlib.Core.Bool.{not};
+ghost use mathlib.Core.List.{[], _∷_};
+ghost use lib.Dec.{eqb, ltb};
 ghost use Rattle.laws.specs.Lists.{firstOf};
-ghost use Rattle.bus.specs.Calls.{lendTests, packetOf, timeoutOf, Leaves};
+ghost use Rattle.bus.specs.Calls.{packetOf, timeoutOf, Leaves};
 
 // Silent; a reply of so many bytes; an SOF with its frame number; or the number of the refusal.
 pub enum Answer {
@@ -27,13 +30,14 @@ pub struct Outcome {
     pub answer: Answer,
 }
 
-fn lend_refusal(core: Core, memory: usize, reply: usize) -> u8
-    ensures { λ n. ⌜ n ≡ firstOf (lendTests core memory reply) 0 ⌝ }
+// The verdict on the core is given, since the core as an argument would be copied.
+fn lend_refusal(sound: bool, size: u32, memory: usize, reply: usize) -> u8
+    ensures { λ n. ⌜ n ≡ firstOf ((not sound, 1) ∷ (not (eqb memory size), 2) ∷ (ltb reply 1027, 3) ∷ []) 0 ⌝ }
 {
-    if !sound::is_sound(core) {
+    if !sound {
         return 1;
     }
-    if memory != (core.memory_size as usize) {
+    if memory != (size as usize) {
         return 2;
     }
     if reply < 1027 {
@@ -45,7 +49,8 @@ fn lend_refusal(core: Core, memory: usize, reply: usize) -> u8
 pub fn packet(core: Core, memory: &mut [u8], reply: &mut [u8], packet: &[u8]) -> Outcome
     ensures { λ o. ⌜ Leaves (packetOf core (now (memory .entry)) (now (reply .entry)) (now (packet .entry))) o (now (memory .exit)) (now (reply .exit)) ⌝ }
 {
-    let refusal = lend_refusal(core, memory.len(), reply.len());
+    let sound = sound::is_sound(core);
+    let refusal = lend_refusal(sound, core.memory_size, memory.len(), reply.len());
     if refusal != 0 {
         return Outcome {
             core,
@@ -62,7 +67,8 @@ pub fn packet(core: Core, memory: &mut [u8], reply: &mut [u8], packet: &[u8]) ->
 pub fn timeout(core: Core, memory: &[u8], reply: &[u8]) -> Outcome
     ensures { λ o. ⌜ o ≡ timeoutOf core (now (memory .entry)) (now (reply .entry)) ⌝ }
 {
-    let refusal = lend_refusal(core, memory.len(), reply.len());
+    let sound = sound::is_sound(core);
+    let refusal = lend_refusal(sound, core.memory_size, memory.len(), reply.len());
     if refusal != 0 {
         return Outcome {
             core,

@@ -81,7 +81,7 @@ pub(crate) fn placed(core: Core, i: usize, turn: Turn) -> Step
     let wait = turn.wait;
     let store = turn.store;
     let says = turn.says;
-    let next = update::with_wait(update::with_record(core, i, after), wait);
+    let next = update::with_record_and_wait(core, i, after, wait);
     Step {
         core: next,
         store,

@@ -253,3 +253,23 @@ pub fn with_wait(core: Core, wait: Wait) -> Core
         wait,
     }
 }
+
+// Both at once: the records are copied once less.
+pub fn with_record_and_wait(core: Core, i: usize, r: Record, wait: Wait) -> Core
+    ensures { λ c. ⌜ c ≡ withWait (withRecord core i r) wait ⌝ }
+{
+    let speed = core.speed;
+    let events = core.events;
+    let mut records = core.records;
+    if i < 16 {
+        records[i] = r;
+    }
+    Core {
+        memory_size: core.memory_size,
+        address: core.address,
+        speed,
+        events,
+        records,
+        wait,
+    }
+}

@@ -4,24 +4,17 @@ use borrow.Author.Needs.{needs}
 use Rattle.bus.proofs.lend_refusal.Statement.{statement}
 use Rattle.bus.proofs.lend_refusal.Tie as tie
 
-is-sound-requires : tie.Need-is-sound-requires
-is-sound-requires c κs = search needs
-
 returns : tie.Need-returns
-returns c = simp (c .if1 .taken, ← c .before .is-sound .ensures)
-
-cast-if2 : tie.Need-cast-if2
-cast-if2 c = search needs
+returns c = simp (c .if1 .taken)
 
 returns-2 : tie.Need-returns-2
-returns-2 c = simp (ne-eqb _ _ (c .if2 .taken), c .before .before .if1 .left, ← c .before .before .before .is-sound .ensures)
+returns-2 c = simp (ne-eqb _ _ (c .if2 .taken), c .before .if1 .left)
 
 returns-3 : tie.Need-returns-3
-returns-3 c = simp (lt-ltb _ _ (c .if3 .taken), eq-eqb _ _ (c .before .if2 .left), c .before .before .before .if1 .left, ← c .before .before .before .before .is-sound .ensures)
+returns-3 c = simp (lt-ltb _ _ (c .if3 .taken), eq-eqb _ _ (c .before .if2 .left), c .before .before .if1 .left)
 
 returns-4 : tie.Need-returns-4
-returns-4 c = simp (le-ltb _ _ (c .if3 .left), eq-eqb _ _ (c .before .if2 .left), c .before .before .before .if1 .left, ← c .before .before .before .before .is-sound .ensures)
+returns-4 c = simp (le-ltb _ _ (c .if3 .left), eq-eqb _ _ (c .before .if2 .left), c .before .before .if1 .left)
 
 pub lend-refusal-spec : {M : Type 1} → statement M
-lend-refusal-spec =
-    tie.close (tie.spec is-sound-requires returns cast-if2 returns-2 returns-3 returns-4)
+lend-refusal-spec = tie.close (tie.spec returns returns-2 returns-3 returns-4)

@@ -1,45 +1,22 @@
--- `bus::arrival::timed_out` meets its contract: each arm is the definition's. Assumes nothing.
-use Rattle.bus.specs.Arrival.{timedOut}
+-- `bus::arrival::timed_out` meets its contract: the wait that is missed is the one that ends. Assumes nothing.
+use mathlib.Core.Path.{_≡_, refl, _∙_}
+use lib.ListN.{length}
+use Rattle.laws.proofs.Lists.{length-mapped}
 use borrow.Author.Needs.{needs}
 use Rattle.bus.proofs.arrival.timed_out.Statement.{statement}
 use Rattle.bus.proofs.arrival.timed_out.Tie as tie
 
-enum-told : tie.Need-enum-told
-enum-told c = search needs
-
-enum-known-wait : tie.Need-enum-known-wait
-enum-known-wait c = search needs
+ending-requires : tie.Need-ending-requires
+ending-requires c κs = search needs
 
 missed-requires : tie.Need-missed-requires
 missed-requires c κs = search needs
 
-enum-known-wait-2 : tie.Need-enum-known-wait-2
-enum-known-wait-2 c = search needs
-
-missed-requires-2 : tie.Need-missed-requires-2
-missed-requires-2 c κs = search needs
-
 returns : tie.Need-returns
-unfolding timedOut
-returns c = simp (c .enum-told .given .1)
-
-returns-2 : tie.Need-returns-2
-unfolding timedOut
-returns-2 c = simp (c .missed .ensures, c .before .before .wait .given .1)
-
-returns-3 : tie.Need-returns-3
-unfolding timedOut
-returns-3 c = simp (c .missed2 .ensures, c .before .before .wait2 .given .1)
+returns c =
+    let b = c .before .before in
+    let s : length (b .args .core .records) ≡ 16 = length-mapped _ (b .args .core .records) 16 (b .good .0 .1 .1 .1 .1 .1 .1 .0 .1 .0 .1) in
+    c .missed .ensures ∙ c .before .ending .ensures (b .args .core) s refl
 
 pub timed-out-spec : {M : Type 1} → statement M
-timed-out-spec =
-    tie.close
-    (tie.spec
-    enum-told
-    enum-known-wait
-    missed-requires
-    enum-known-wait-2
-    missed-requires-2
-    returns
-    returns-2
-    returns-3)
+timed-out-spec = tie.close (tie.spec ending-requires missed-requires returns)
