@@ -44,9 +44,7 @@ fn is_ack(packet: &[u8]) -> bool
 fn missed(core: Core, i: usize) -> Core
     ensures { λ c. ⌜ c ≡ missed core i ⌝ }
 {
-    let turn = turn::noting(update::record_at(core, i), RecordEvent::WaitEnded);
-    let step = turn::placed(core, i, turn);
-    step.core
+    update::with_event(core, i, RecordEvent::WaitEnded)
 }
 
 // The stretch from `at` alone is lent on.

@@ -15,6 +15,7 @@ use crate::Transfer;
 use crate::Wait;
 use crate::events;
 ghost use mathlib.Core.Path.{_≡_};
+ghost use Rattle.state.specs.declared.Wait.the-variants.{Nothing};
 ghost use Rattle.state.specs.Update.{noEvents, noSystemEvents, data0, fresh, offRecord, withCondition, withNext, withEvents, withToggles, withBuffers, bufferOf, withBuffer, noted, signalled, started, withAddress, withSystemEvents, withWait, recordAt, withRecord};
 
 pub fn no_events() -> RecordEvents
@@ -271,5 +272,27 @@ pub fn with_record_and_wait(core: Core, i: usize, r: Record, wait: Wait) -> Core
         events,
         records,
         wait,
+    }
+}
+
+// The event is noted where the record stands, and no wait is left.
+pub fn with_event(core: Core, i: usize, event: RecordEvent) -> Core
+    ensures { λ c. ⌜ c ≡ withWait (withRecord core i (withEvents (recordAt core i) (noted (recordAt core i .events) event))) Nothing ⌝ }
+{
+    let speed = core.speed;
+    let events = core.events;
+    let mut records = core.records;
+    if i < 16 {
+        let r = records[i];
+        let before = r.events;
+        records[i] = with_events(r, noted(before, event));
+    }
+    Core {
+        memory_size: core.memory_size,
+        address: core.address,
+        speed,
+        events,
+        records,
+        wait: Wait::Nothing,
     }
 }

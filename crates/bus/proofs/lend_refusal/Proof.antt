@@ -1,6 +1,5 @@
 -- `bus::lend_refusal` meets its contract: each return is a test of the list in its order. Assumes nothing.
 use borrow.Author.Tests.{eq-eqb, le-ltb, lt-ltb, ne-eqb}
-use borrow.Author.Needs.{needs}
 use Rattle.bus.proofs.lend_refusal.Statement.{statement}
 use Rattle.bus.proofs.lend_refusal.Tie as tie
 
