@@ -44,7 +44,7 @@ fn is_ack(packet: &[u8]) -> bool
 fn missed(core: Core, i: usize) -> Core
     ensures { λ c. ⌜ c ≡ missed core i ⌝ }
 {
-    update::with_event(core, i, RecordEvent::WaitEnded)
+    update::with_wait_ended(core, i, RecordEvent::WaitEnded)
 }
 
 // The stretch from `at` alone is lent on.

@@ -276,7 +276,7 @@ pub fn with_record_and_wait(core: Core, i: usize, r: Record, wait: Wait) -> Core
 }
 
 // The event is noted where the record stands, and no wait is left.
-pub fn with_event(core: Core, i: usize, event: RecordEvent) -> Core
+pub fn with_wait_ended(core: Core, i: usize, event: RecordEvent) -> Core
     ensures { λ c. ⌜ c ≡ withWait (withRecord core i (withEvents (recordAt core i) (noted (recordAt core i .events) event))) Nothing ⌝ }
 {
     let speed = core.speed;

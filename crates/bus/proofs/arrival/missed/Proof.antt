@@ -4,12 +4,12 @@ use borrow.Author.Needs.{needs}
 use Rattle.bus.proofs.arrival.missed.Statement.{statement}
 use Rattle.bus.proofs.arrival.missed.Tie as tie
 
-with-event-requires : tie.Need-with-event-requires
-with-event-requires c κs = search needs
+with-wait-ended-requires : tie.Need-with-wait-ended-requires
+with-wait-ended-requires c κs = search needs
 
 returns : tie.Need-returns
 unfolding missed
-returns c = simp (c .with-event .ensures)
+returns c = simp (c .with-wait-ended .ensures)
 
 pub missed-spec : {M : Type 1} → statement M
-missed-spec = tie.close (tie.spec with-event-requires returns)
+missed-spec = tie.close (tie.spec with-wait-ended-requires returns)

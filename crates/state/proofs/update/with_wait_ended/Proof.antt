@@ -1,4 +1,4 @@
--- `state::update::with_event` meets its contract: above 15 there is no record to note it in. Assumes nothing.
+-- `state::update::with_wait_ended` meets its contract: above 15 there is no record to note it in. Assumes nothing.
 use mathlib.Core.Path.{_≡_, sym, ap}
 use mathlib.Core.List.{List}
 use lib.Seq.{set-out}
@@ -9,8 +9,8 @@ use Rattle.state.specs.declared.Record.{Record}
 use Rattle.state.specs.declared.Wait.the-variants.{Nothing}
 use Rattle.state.specs.Update.{withRecords, withWait}
 use borrow.Author.Needs.{needs}
-use Rattle.state.proofs.update.with_event.Statement.{statement}
-use Rattle.state.proofs.update.with_event.Tie as tie
+use Rattle.state.proofs.update.with_wait_ended.Statement.{statement}
+use Rattle.state.proofs.update.with_wait_ended.Tie as tie
 
 mul-r : tie.Need-mul-r
 mul-r c = search needs
@@ -40,8 +40,8 @@ returns-2 c =
     let s : length (a .core .records) ≡ 16 = length-mapped _ (a .core .records) 16 (b .good .0 .1 .1 .1 .1 .1 .1 .0 .1 .0 .1) in
     sym (ap (λ (l : List Record). withWait (withRecords (a .core) l) Nothing) (set-out (a .core .records) (a .i) _ (omega (arith, s, c .if1 .left))))
 
-pub with-event-spec : {M : Type 1} → statement M
-with-event-spec =
+pub with-wait-ended-spec : {M : Type 1} → statement M
+with-wait-ended-spec =
     tie.close
     (tie.spec
     mul-r
