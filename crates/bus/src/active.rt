@@ -16,7 +16,7 @@ ghost use Rattle.state.specs.Ranges.{doneOf};
 ghost use Rattle.bus.specs.Active.{isIn, serves, chosen, chosenBuffer, active, leftOf, placeOf, grown, spent, usedEvent, usedUp, filled, flippedIn, acknowledged, Roomy};
 
 // OUT, SETUP and PING look on the OUT side.
-pub(crate) enum Direction {
+pub enum Direction {
     Out,
     In,
 }

@@ -18,7 +18,7 @@ ghost use mathlib.Core.Path.{_≡_};
 ghost use Rattle.bus.specs.Idle.{firstPid, foundAs, addressed, framed, pinged, byKind, meeting, noWait};
 
 // What a packet is to the core: nothing, an event, a frame, or a token for the record found.
-pub(crate) enum Met {
+pub enum Met {
     Nothing,
     Trouble(SystemEvent),
     Frame(u16),

@@ -8,8 +8,16 @@ mod search;
 mod token;
 mod turn;
 
+pub use active::Direction;
+pub use idle::Met;
+pub use search::Found;
 use state::Core;
 use state::sound;
+pub use token::Asks;
+pub use turn::Says;
+pub use turn::Step;
+pub use turn::Store;
+pub use turn::Turn;
 ghost use mathlib.Core.Path.{_≡_};
 ghost use mathlib.Core.Bool.{not};
 ghost use mathlib.Core.List.{[], _∷_};

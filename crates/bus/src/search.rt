@@ -7,7 +7,7 @@ use state::range;
 ghost use mathlib.Core.Path.{_≡_};
 ghost use Rattle.bus.specs.Search.{servedBy, foundIn};
 
-pub(crate) enum Found {
+pub enum Found {
     At(usize),
     Nowhere,
 }

@@ -18,7 +18,7 @@ ghost use mathlib.Core.Path.{_≡_};
 ghost use Rattle.bus.specs.Tokens.{directionOf, isHalted, isInterrupt, onOut, onSetup, onPing, sending, onIn, turnOf};
 
 // What a token asks of a record.
-pub(crate) enum Asks {
+pub enum Asks {
     Out,
     Setup,
     Ping,

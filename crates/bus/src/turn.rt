@@ -9,13 +9,13 @@ ghost use mathlib.Core.Path.{_≡_};
 ghost use Rattle.bus.specs.Turn.{saying, noting, waiting, placed, unchanged, signalling};
 
 // Where the payload is stored.
-pub(crate) enum Store {
+pub enum Store {
     Nowhere,
     At(usize),
 }
 
 // What is said on the bus; a frame is not said there, the packet is answered as SOF.
-pub(crate) enum Says {
+pub enum Says {
     Silence,
     Ack,
     Nak,
@@ -29,14 +29,14 @@ pub(crate) enum Says {
     Frame(u16),
 }
 
-pub(crate) struct Turn {
+pub struct Turn {
     pub after: Record,
     pub wait: Wait,
     pub store: Store,
     pub says: Says,
 }
 
-pub(crate) struct Step {
+pub struct Step {
     pub core: Core,
     pub store: Store,
     pub says: Says,

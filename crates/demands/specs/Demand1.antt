@@ -1,0 +1,58 @@
+-- Demand 1, of any behaviour: "No packet and no firmware call may take the core outside its memory or its rules. Each entry judges its
+-- own arguments. A refused call gives its number from the table and leaves the core's records, the buffer memory and the reply buffer as
+-- they stood."
+use Prim.Native.Nat.{ℕ}
+use mathlib.Core.Path.{_≡_}
+use mathlib.Core.Bool.{Bool}
+use mathlib.Core.List.{List, []}
+use lib.ListN.{length}
+use Rattle.laws.specs.Lists.{firstOf}
+use Rattle.state.specs.declared.Speed.the-variants.{Full}
+use Rattle.state.specs.declared.Core.{Core}
+use Rattle.state.specs.Update.{started}
+use Rattle.state.specs.Sound.{Sound}
+use Rattle.firmware.specs.Device.{startTests, addressTests, soundTests}
+use Rattle.firmware.specs.Records.{indexTests, configureTests, haltTests}
+use Rattle.firmware.specs.Buffers.{armTests, disarmTests}
+use Rattle.bus.specs.Calls.{lendTests}
+use Rattle.demands.specs.Behaviour.{Lent, Call, Start, Configure, Arm, Disarm, SetHalt, ClearHalt, SetAddress, BusReset, RecordEvents, SystemEvents, Packet, Timeout, refusal, Behaviour, Given, Beginning, runFrom}
+
+-- each row of the table that a call has an argument for, in the order of the numbers
+abbrev pub testsOf : Core → Lent → Call → List (Bool × ℕ)
+testsOf core lent (Start M speed) = startTests M
+testsOf core lent (Configure i condition e) = configureTests core i condition e
+testsOf core lent (Arm i buffer base length) = armTests core i buffer base length
+testsOf core lent (Disarm i buffer) = disarmTests core i buffer
+testsOf core lent (SetHalt i) = haltTests core i
+testsOf core lent (ClearHalt i) = haltTests core i
+testsOf core lent (SetAddress address) = addressTests core address
+testsOf core lent (BusReset speed) = soundTests core
+testsOf core lent (RecordEvents i) = indexTests core i []
+testsOf core lent SystemEvents = soundTests core
+testsOf core lent (Packet p) = lendTests core (length (lent .memory)) (length (lent .reply))
+testsOf core lent Timeout = lendTests core (length (lent .memory)) (length (lent .reply))
+
+-- the state that a refused call leaves: the one that it was given, and "a refused start returns the start state at full speed with M 0"
+abbrev pub asItStood : Core → Call → Core
+asItStood core (Start M speed) = started 0 Full
+asItStood core (Configure i condition e) = core
+asItStood core (Arm i buffer base length) = core
+asItStood core (Disarm i buffer) = core
+asItStood core (SetHalt i) = core
+asItStood core (ClearHalt i) = core
+asItStood core (SetAddress address) = core
+asItStood core (BusReset speed) = core
+asItStood core (RecordEvents i) = core
+asItStood core SystemEvents = core
+asItStood core (Packet p) = core
+asItStood core Timeout = core
+
+pub record Demand1 (B : Behaviour) : Type 0 where
+  -- its rules: every run from a start is in a sound state
+  pub stays-sound : (s : Beginning) (gs : List Given) → Sound (runFrom B s gs)
+  -- the number of the first row of the table that holds, and 0 where none does
+  pub judges : (core : Core) (lent : Lent) (call : Call) → refusal (B core lent call .answer) ≡ firstOf (testsOf core lent call) 0
+  pub refused-keeps : (core : Core) (lent : Lent) (call : Call) → (refusal (B core lent call .answer) ≡ 0 → ⊥) → (B core lent call .core ≡ asItStood core call) × (B core lent call .lent ≡ lent)
+  -- its memory: as many bytes as were lent
+  pub memory-length : (core : Core) (lent : Lent) (call : Call) → length (B core lent call .lent .memory) ≡ length (lent .memory)
+  pub reply-length : (core : Core) (lent : Lent) (call : Call) → length (B core lent call .lent .reply) ≡ length (lent .reply)

@@ -1,0 +1,9 @@
+pub mod Behaviour
+pub mod Demand1
+pub mod Demand2
+pub mod History
+pub mod Host
+pub mod Demand3
+pub mod Exchange
+pub mod Frauds
+pub mod Examples
