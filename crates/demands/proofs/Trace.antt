@@ -106,10 +106,6 @@ unfolding isOurToken opens fails tokenOf verdictOf rightCheck checkSent stretch 
 fair =
     ((tt, tt), ((tt, tt), ((refl, (refl, refl)), ((tt, tt), ((tt, refl), ((refl, tt), ((tt, tt), ((tt, tt), ((refl, refl), ((tt, tt), (tt, ((tt, tt), tt))))))))))))
 
-pub proper-trace : AllProper theCore host (begin port) (trace closed episodes)
-unfolding outToken heard storedBy settled recordEventsOf recordBits armOf sharesByte packetOf timeoutOf packetStep fulfilled timedOut missed dataStep isDataFirst isAck noWait meeting foundIn servedBy onIn sending afterOut taking taken marked acceptance filled usedUp acknowledged active chosen isSound recordFits liveFits isZero beside shareByte endpointFits misplaced markFits tokenOf pidOf kindOf pidByte verdictOf payloadOf stretch rightCheck checkSent packet step after bits sent check
-proper-trace = all-proper theCore host (begin port) (trace closed episodes) refl
-
 -- what is heard behind each of its happenings
 abbrev answers : World → List Happening → List (List ℕ)
 answers w [] = []
@@ -124,17 +120,18 @@ heard-there =
 abbrev end : World
 end = host.after theCore host (begin port) (trace closed episodes)
 
-acknowledged-there : eqb (end .acknowledged) 3 ≡ true
-unfolding outToken heard storedBy settled recordEventsOf recordBits armOf sharesByte packetOf timeoutOf packetStep fulfilled timedOut missed dataStep isDataFirst isAck noWait meeting foundIn servedBy onIn sending afterOut taking taken marked acceptance filled usedUp acknowledged active chosen isSound recordFits liveFits isZero beside shareByte endpointFits misplaced markFits tokenOf pidOf kindOf pidByte verdictOf payloadOf stretch rightCheck checkSent packet step after bits sent check
-acknowledged-there = refl
+record Computed : Type 0 where
+  proper-there : areProper theCore host (begin port) (trace closed episodes) ≡ true
+  acknowledged-there : eqb (end .acknowledged) 3 ≡ true
+  stored-there : samePackets (end .stored) (host .payloads) ≡ true
+  answered-there : samePackets (answers (begin port) (trace closed episodes)) heard-there ≡ true
 
-stored-there : samePackets (end .stored) (host .payloads) ≡ true
+computed : Computed
 unfolding outToken heard storedBy settled recordEventsOf recordBits armOf sharesByte packetOf timeoutOf packetStep fulfilled timedOut missed dataStep isDataFirst isAck noWait meeting foundIn servedBy onIn sending afterOut taking taken marked acceptance filled usedUp acknowledged active chosen isSound recordFits liveFits isZero beside shareByte endpointFits misplaced markFits tokenOf pidOf kindOf pidByte verdictOf payloadOf stretch rightCheck checkSent packet step after bits sent check
-stored-there = refl
+computed = record { proper-there = refl; acknowledged-there = refl; stored-there = refl; answered-there = refl }
 
-answered-there : samePackets (answers (begin port) (trace closed episodes)) heard-there ≡ true
-unfolding outToken heard storedBy settled recordEventsOf recordBits armOf sharesByte packetOf timeoutOf packetStep fulfilled timedOut missed dataStep isDataFirst isAck noWait meeting foundIn servedBy onIn sending afterOut taking taken marked acceptance filled usedUp acknowledged active chosen isSound recordFits liveFits isZero beside shareByte endpointFits misplaced markFits tokenOf pidOf kindOf pidByte verdictOf payloadOf stretch rightCheck checkSent packet step after bits sent check
-answered-there = refl
+pub proper-trace : AllProper theCore host (begin port) (trace closed episodes)
+proper-trace = all-proper theCore host (begin port) (trace closed episodes) (computed .proper-there)
 
 -- each payload is stored once, in order, and acknowledged
 pub record Ends : Type 0 where
@@ -145,7 +142,7 @@ pub record Ends : Type 0 where
 pub ends : Ends
 ends =
     record {
-      all-acknowledged = eqb-true (end .acknowledged) 3 acknowledged-there;
-      all-stored = same-packets (end .stored) (host .payloads) stored-there;
-      answered = same-packets (answers (begin port) (trace closed episodes)) heard-there answered-there;
+      all-acknowledged = eqb-true (end .acknowledged) 3 (computed .acknowledged-there);
+      all-stored = same-packets (end .stored) (host .payloads) (computed .stored-there);
+      answered = same-packets (answers (begin port) (trace closed episodes)) heard-there (computed .answered-there);
     }

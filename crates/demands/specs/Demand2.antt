@@ -16,7 +16,7 @@ use Rattle.state.specs.declared.Stage.the-variants as stage
 use Rattle.state.specs.declared.Wait.the-variants as wait
 use Rattle.state.specs.declared.Core.{Core}
 use Rattle.state.specs.Update.{bufferOf, recordAt}
-use Rattle.state.specs.Ranges.{isControl, isArmed}
+use Rattle.state.specs.Ranges.{isControl, isArmed, doneOf}
 use Rattle.state.specs.Sound.{Sound}
 use Rattle.bus.specs.declared.active.Direction.the-variants.{Out}
 use Rattle.bus.specs.declared.Answer.the-variants.{Silent}
@@ -80,13 +80,12 @@ NotGoodCase B =
     → verdictOf p ≡ verdict.NotGood
     → (B core lent (Packet p) .answer ≡ ToBus Silent) × (B core lent (Packet p) .lent ≡ lent)
 
--- "Otherwise the marked one if allocated, else the other. .. a used marked buffer is not skipped": while the marked buffer is allocated a packet
--- leaves the other as it stands, so that the buffers are filled and emptied in the order of the mark. "Choosing any free buffer: after one is used,
--- order is lost."
+-- "Otherwise the marked one if allocated, else the other. .. a used marked buffer is not skipped": while the marked buffer is allocated nothing is
+-- counted to the other, so the buffers are filled and emptied in the order of the mark. "Choosing any free buffer: after one is used, order is lost."
 abbrev pub MarkCase : Behaviour → Type 0
 MarkCase B =
     (core : Core) (lent : Lent) (i : ℕ) (p : List ℕ)
     → Sound core
     → isControl (recordAt core i .endpoint .kind) ≡ false
     → isArmed (bufferOf (recordAt core i) (recordAt core i .next)) ≡ true
-    → bufferOf (recordAt (B core lent (Packet p) .core) i) (not (recordAt core i .next)) ≡ bufferOf (recordAt core i) (not (recordAt core i .next))
+    → doneOf (bufferOf (recordAt (B core lent (Packet p) .core) i) (not (recordAt core i .next))) ≡ doneOf (bufferOf (recordAt core i) (not (recordAt core i .next)))
