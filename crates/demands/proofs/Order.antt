@@ -16,12 +16,12 @@ use Rattle.state.specs.declared.Record.{Record}
 use Rattle.state.specs.declared.Core.{Core}
 use Rattle.state.specs.Update.{bufferOf, recordAt}
 use Rattle.state.specs.Ranges.{isControl, isArmed}
-use Rattle.state.specs.Sound.{sender, WaitSound, Sound}
+use Rattle.state.specs.Sound.{sender, WaitSound}
 use Rattle.bus.specs.declared.active.Direction.the-variants.{Out}
 use Rattle.bus.specs.Active.{chosen}
 use Rattle.bus.specs.Arrival.{isAck}
 use Rattle.bus.specs.Calls.{lendRefusal}
-use Rattle.demands.specs.Behaviour.{Lent, Packet, Outcome, heard, theCore}
+use Rattle.demands.specs.Behaviour.{Packet, Outcome, heard, theCore}
 use Rattle.demands.specs.Demand2.{isAcceptance, MarkCase}
 use Rattle.demands.specs.History.{isGoodAs, expected}
 use Rattle.demands.proofs.Heard.{call-refused}
@@ -66,8 +66,7 @@ mark-case core lent i p w c a = pick (decEq (lendRefusal core (lent .memory) (le
   where
     pick : Dec (lendRefusal core (lent .memory) (lent .reply) ≡ 0) → doneIn (theCore core lent (Packet p) .core) i (not (recordAt core i .next)) ≡ doneIn core i (not (recordAt core i .next))
     pick (yes z) =
-        omega
-        (
+        omega (
           arith,
           packet-gains core w lent p i (not (recordAt core i .next)) z,
           nothing-gained core i c a (core .wait) (w .wait-sound) p (heard (theCore core lent (Packet p))),

@@ -1,11 +1,10 @@
 -- A port that is reached from a start, and a host that sends it three payloads: record 0 plays bulk OUT number 1 with both buffers armed, record 1
 -- bulk IN number 1. Assumes nothing.
-use Prim.Native.Nat.{ℕ}
 use native.Mathlib.Omega.{arith}
 use mathlib.Core.Path.{_≡_, refl}
 use mathlib.Core.Bool.{true, false}
 use mathlib.Core.List.{List, [], _∷_}
-use lib.ListN.{replicate, set}
+use lib.ListN.{replicate}
 use Rattle.state.specs.declared.Speed.the-variants.{Full}
 use Rattle.state.specs.declared.Condition.the-variants.{Normal}
 use Rattle.state.specs.declared.Kind.{Kind}
@@ -14,7 +13,7 @@ use Rattle.state.specs.declared.Transfer.the-variants as transfer
 use Rattle.state.specs.declared.Endpoint.{Endpoint}
 use Rattle.state.specs.declared.Descriptor.the-variants.{Unallocated, Armed}
 use Rattle.state.specs.declared.Core.{Core}
-use Rattle.state.specs.Update.{fresh, started, withAddress, withBuffers, withRecords, withRecord}
+use Rattle.state.specs.Update.{fresh, started, withAddress, withBuffers, withRecord}
 use Rattle.state.specs.Ranges.{endpointFits, misplaced, markFits, liveFits, isZero, recordFits}
 use Rattle.state.specs.Served.{beside}
 use Rattle.state.specs.Spans.{shareByte}

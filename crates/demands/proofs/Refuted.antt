@@ -15,7 +15,6 @@ use Rattle.wire.specs.Pid.{kindOf, pidOf, pidByte}
 use Rattle.wire.specs.Token.{tokenOf}
 use Rattle.wire.specs.Data.{packet, stretch, checkSent, rightCheck, verdictOf, payloadOf}
 use Rattle.state.specs.declared.Stage.the-variants as st
-use Rattle.state.specs.declared.Descriptor.{Descriptor}
 use Rattle.state.specs.declared.Descriptor.the-variants.{Armed}
 use Rattle.state.specs.declared.Wait.the-variants.{Data}
 use Rattle.state.specs.declared.Core.{Core}
@@ -23,7 +22,7 @@ use Rattle.state.specs.Update.{withWait, withRecord, withBuffers, recordAt, buf
 use Rattle.state.specs.Ranges.{endpointFits, misplaced, markFits, liveFits, isZero, recordFits, doneOf}
 use Rattle.state.specs.Served.{beside}
 use Rattle.state.specs.Spans.{shareByte}
-use Rattle.state.specs.Sound.{Sound, isSound}
+use Rattle.state.specs.Sound.{isSound}
 use Rattle.state.proofs.Tested.{tested}
 use Rattle.firmware.specs.Answers.{settled}
 use Rattle.firmware.specs.Device.{startOf, setAddressOf}

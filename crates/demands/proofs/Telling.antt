@@ -25,8 +25,8 @@ use Rattle.firmware.specs.Answers.{accepted, refused, judged, settled}
 use Rattle.firmware.specs.Device.{startTests, startOf, addressTests, setAddressOf, soundTests, afterReset, busResetOf, systemEventsOf}
 use Rattle.firmware.specs.Records.{indexTests, configureTests, configured, configureOf, haltTests, setHaltOf, clearHaltOf, recordEventsOf}
 use Rattle.firmware.specs.Buffers.{isSecond, armTests, armOf, disarmTests, disarmOf}
-use Rattle.demands.specs.Behaviour.{Lent, Call, Configure, Arm, Disarm, SetHalt, ClearHalt, SetAddress, BusReset, RecordEvents, SystemEvents, heard, byFirmware, theCore}
-use Rattle.demands.specs.History.{Ledger, emptied, told, isStart, noted, total}
+use Rattle.demands.specs.Behaviour.{Lent, Call, Configure, Arm, Disarm, SetHalt, ClearHalt, SetAddress, BusReset, RecordEvents, SystemEvents, heard, byFirmware, sideOf, isAnew, theCore}
+use Rattle.demands.specs.History.{Ledger, emptied, told, noted, total}
 use Rattle.demands.proofs.Counts.{done, doneIn, Same, each-after, same-after}
 use Rattle.demands.proofs.LastSent.{Outstanding, none-outstanding}
 
@@ -95,7 +95,7 @@ buffer-done r false true d e = refl
 buffer-done r false false d e = e
 
 module _ (core : Core) (w : Sound core) (lent : Lent) (i : ℕ) (k : Bool) (l : Ledger) (t : Told core i k l) where
-  settled-told : (call : Call) → isStart call ≡ false → (n : ℕ) (after : Core) (number : ℕ) → (n ≡ 0 → (answered : List ℕ) → Told after i k (told i k core call answered l)) → let o = settled n core after number in Told (o .core) i k (noted i k core call (byFirmware lent o) l)
+  settled-told : (call : Call) → isAnew (sideOf call) ≡ false → (n : ℕ) (after : Core) (number : ℕ) → (n ≡ 0 → (answered : List ℕ) → Told after i k (told i k core call answered l)) → let o = settled n core after number in Told (o .core) i k (noted i k core call (byFirmware lent o) l)
   settled-told call s n after number f =
       settled-by (λ (o : firmware-call.Outcome). Told (o .core) i k (noted i k core call (byFirmware lent o) l)) n core after number
       (λ e. subst (Told after i k) (sym (ap (λ (b : Bool). cond b (emptied l) (told i k core call (heard (byFirmware lent (accepted after number))) l)) s)) (f e (heard (byFirmware lent (accepted after number)))))

@@ -1,11 +1,11 @@
 -- A trace that meets every hypothesis of demand 3, computed: packets and a handshake are lost, a packet is damaged, a payload is repeated, one meets
 -- NAK, both buffers are filled and one again, the firmware calls between the packets, and another endpoint is served. Assumes nothing.
-use Prim.Native.Nat.{ℕ, _<_}
+use Prim.Native.Nat.{ℕ}
 use mathlib.Core.Path.{_≡_, refl}
 use mathlib.Core.Bool.{Bool, true, false, _&&_}
-use mathlib.Core.List.{List, [], _∷_, map}
+use mathlib.Core.List.{List, [], _∷_}
 use lib.Dec.{ltb, eqb}
-use lib.ListN.{length, take}
+use lib.ListN.{length}
 use borrow.Author.Tests.{ltb-true, eqb-true}
 use Rattle.laws.proofs.Bools.{both}
 use Rattle.wire.specs.Crc.{step, after, bits, sent, check}
@@ -32,7 +32,7 @@ use Rattle.demands.specs.Demand2.{lends}
 use Rattle.demands.specs.Host.{Setting, Happening, Firmware, Late, TokenArrives, DataArrives, DamagedArrives, OtherArrives, storedBy, outToken, isOurToken, opens, fails, World, begin, next, outcome}
 use Rattle.demands.specs.Host as host
 use Rattle.demands.specs.Demand3.{permits}
-use Rattle.demands.specs.Exchange.{Fate, Arrives, Lost, Fails, Exchange, Follows, Done, Remainder, Episode, Ours, Theirs, Calls, trace, AllFair, Proper, AllProper}
+use Rattle.demands.specs.Exchange.{Fate, Arrives, Lost, Fails, Follows, Done, Remainder, Episode, Ours, Theirs, Calls, trace, AllFair, Proper, AllProper}
 use Rattle.demands.proofs.Computing.{samePackets, same-packets}
 use Rattle.demands.proofs.Port.{port, lent, host}
 

@@ -1,6 +1,7 @@
 -- A behaviour: what a core does at each call. Document 01's core is one, and so is a fraud.
 use Prim.Native.Nat.{ℕ}
 use mathlib.Core.Path.{_≡_}
+use mathlib.Core.Bool.{Bool, true, false}
 use mathlib.Core.List.{List, [], _∷_}
 use lib.ListN.{take}
 use Rattle.state.specs.declared.Speed.{Speed}
@@ -42,6 +43,34 @@ pub data Call : Type 0 where
   SystemEvents : Call
   Packet : List ℕ → Call
   Timeout : Call
+
+-- who makes it: a start, which is given no state; the firmware; or the bus
+pub data Side : Type 0 where
+  Anew ByFirmware OnBus : Side
+
+abbrev pub sideOf : Call → Side
+sideOf (Start M speed) = Anew
+sideOf (Configure i condition e) = ByFirmware
+sideOf (Arm i buffer base length) = ByFirmware
+sideOf (Disarm i buffer) = ByFirmware
+sideOf (SetHalt i) = ByFirmware
+sideOf (ClearHalt i) = ByFirmware
+sideOf (SetAddress address) = ByFirmware
+sideOf (BusReset speed) = ByFirmware
+sideOf (RecordEvents i) = ByFirmware
+sideOf SystemEvents = ByFirmware
+sideOf (Packet p) = OnBus
+sideOf Timeout = OnBus
+
+abbrev pub isAnew : Side → Bool
+isAnew Anew = true
+isAnew ByFirmware = false
+isAnew OnBus = false
+
+abbrev pub isByFirmware : Side → Bool
+isByFirmware Anew = false
+isByFirmware ByFirmware = true
+isByFirmware OnBus = false
 
 -- what a call answers: the firmware's calls, and the two of the bus
 pub data Answer : Type 0 where

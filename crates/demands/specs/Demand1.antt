@@ -3,7 +3,7 @@
 -- they stood."
 use Prim.Native.Nat.{ℕ}
 use mathlib.Core.Path.{_≡_}
-use mathlib.Core.Bool.{Bool}
+use mathlib.Core.Bool.{Bool, cond}
 use mathlib.Core.List.{List, []}
 use lib.ListN.{length}
 use Rattle.laws.specs.Lists.{firstOf}
@@ -15,7 +15,7 @@ use Rattle.firmware.specs.Device.{startTests, addressTests, soundTests}
 use Rattle.firmware.specs.Records.{indexTests, configureTests, haltTests}
 use Rattle.firmware.specs.Buffers.{armTests, disarmTests}
 use Rattle.bus.specs.Calls.{lendTests}
-use Rattle.demands.specs.Behaviour.{Lent, Call, Start, Configure, Arm, Disarm, SetHalt, ClearHalt, SetAddress, BusReset, RecordEvents, SystemEvents, Packet, Timeout, refusal, Behaviour, Given, Beginning, runFrom}
+use Rattle.demands.specs.Behaviour.{Lent, Call, Start, Configure, Arm, Disarm, SetHalt, ClearHalt, SetAddress, BusReset, RecordEvents, SystemEvents, Packet, Timeout, sideOf, isAnew, refusal, Behaviour, Given, Beginning, runFrom}
 
 -- each row of the table that a call has an argument for, in the order of the numbers
 abbrev pub testsOf : Core → Lent → Call → List (Bool × ℕ)
@@ -34,18 +34,7 @@ testsOf core lent Timeout = lendTests core (length (lent .memory)) (length (lent
 
 -- the state that a refused call leaves: the one that it was given, and "a refused start returns the start state at full speed with M 0"
 abbrev pub asItStood : Core → Call → Core
-asItStood core (Start M speed) = started 0 Full
-asItStood core (Configure i condition e) = core
-asItStood core (Arm i buffer base length) = core
-asItStood core (Disarm i buffer) = core
-asItStood core (SetHalt i) = core
-asItStood core (ClearHalt i) = core
-asItStood core (SetAddress address) = core
-asItStood core (BusReset speed) = core
-asItStood core (RecordEvents i) = core
-asItStood core SystemEvents = core
-asItStood core (Packet p) = core
-asItStood core Timeout = core
+asItStood core call = cond (isAnew (sideOf call)) (started 0 Full) core
 
 pub record Demand1 (B : Behaviour) : Type 0 where
   -- its rules: every run from a start is in a sound state

@@ -2,7 +2,7 @@
 use Prim.Native.Nat.{ℕ, suc, _<_}
 use mathlib.Core.Path.{_≡_}
 use mathlib.Core.Logic.{_⊎_}
-use mathlib.Core.Bool.{Bool, true, false, not, _&&_, _||_, cond}
+use mathlib.Core.Bool.{Bool, true, false, not, _&&_, _||_}
 use mathlib.Core.List.{List, [], _∷_, _++_}
 use lib.Dec.{leb, eqb}
 use lib.ListN.{length, take}
@@ -16,7 +16,7 @@ use Rattle.state.specs.Sound.{Sound}
 use Rattle.firmware.specs.Records.{waitsOn}
 use Rattle.bus.specs.declared.active.Direction.the-variants.{Out}
 use Rattle.bus.specs.Active.{active}
-use Rattle.demands.specs.Behaviour.{Lent, Call, Start, Configure, Arm, Disarm, SetHalt, ClearHalt, SetAddress, BusReset, RecordEvents, SystemEvents, Packet, Timeout, refusal, Behaviour}
+use Rattle.demands.specs.Behaviour.{Lent, Call, Start, Configure, Arm, Disarm, SetHalt, ClearHalt, SetAddress, BusReset, RecordEvents, SystemEvents, Packet, Timeout, sideOf, isByFirmware, refusal, Behaviour}
 use Rattle.demands.specs.Demand2.{lends}
 use Rattle.demands.specs.Host.{Setting, Happening, Firmware, Late, TokenArrives, DataArrives, DamagedArrives, OtherArrives, This, isThis, isAnother, isOurToken, isGood, fails, World, next, after, begin}
 
@@ -58,20 +58,9 @@ spares s SystemEvents = true
 spares s (Packet p) = false
 spares s Timeout = false
 
--- a start is none: it is given no state that it could leave as it stood
+-- a call of the firmware's; a start is none: it is given no state that it could leave as it stood
 abbrev pub isFirmware : Call → Bool
-isFirmware (Start M speed) = false
-isFirmware (Configure j condition e) = true
-isFirmware (Arm j buffer base length) = true
-isFirmware (Disarm j buffer) = true
-isFirmware (SetHalt j) = true
-isFirmware (ClearHalt j) = true
-isFirmware (SetAddress address) = true
-isFirmware (BusReset speed) = true
-isFirmware (RecordEvents j) = true
-isFirmware SystemEvents = true
-isFirmware (Packet p) = false
-isFirmware Timeout = false
+isFirmware c = isByFirmware (sideOf c)
 
 -- a firmware call that spares the endpoint, or is refused
 abbrev pub permits : Behaviour → Setting → World → Lent → Call → Bool

@@ -23,7 +23,7 @@ use Rattle.firmware.specs.Buffers.{isSecond}
 use Rattle.bus.specs.declared.active.Direction.the-variants.{Out}
 use Rattle.bus.specs.Active.{chosen, placeOf}
 use Rattle.bus.specs.Arrival.{isAck}
-use Rattle.demands.specs.Behaviour.{Lent, Call, Start, Configure, Arm, Disarm, SetHalt, ClearHalt, SetAddress, BusReset, RecordEvents, SystemEvents, Packet, Timeout, refusal, Outcome, heard, Behaviour, Given, Beginning, from, run, runFrom}
+use Rattle.demands.specs.Behaviour.{Lent, Call, Start, Configure, Arm, Disarm, SetHalt, ClearHalt, SetAddress, BusReset, RecordEvents, SystemEvents, Packet, Timeout, sideOf, isAnew, refusal, Outcome, heard, Behaviour, Given, Beginning, from, runFrom}
 use Rattle.demands.specs.Demand2.{isAcceptance, togglePid}
 
 -- what the history says of one buffer
@@ -93,22 +93,8 @@ told i second core (Packet p) answered l =
 told i second core Timeout answered l = l
 
 -- a refused call tells nothing, but a start begins anew, refused or not
-abbrev pub isStart : Call → Bool
-isStart (Start M speed) = true
-isStart (Configure j condition e) = false
-isStart (Arm j buffer base length) = false
-isStart (Disarm j buffer) = false
-isStart (SetHalt j) = false
-isStart (ClearHalt j) = false
-isStart (SetAddress address) = false
-isStart (BusReset speed) = false
-isStart (RecordEvents j) = false
-isStart SystemEvents = false
-isStart (Packet p) = false
-isStart Timeout = false
-
 abbrev pub noted : ℕ → Bool → Core → Call → Outcome → Ledger → Ledger
-noted i second core call o l = cond (isStart call) (emptied l) (cond (eqb (refusal (o .answer)) 0) (told i second core call (heard o) l) l)
+noted i second core call o l = cond (isAnew (sideOf call)) (emptied l) (cond (eqb (refusal (o .answer)) 0) (told i second core call (heard o) l) l)
 
 abbrev pub ledger : Behaviour → ℕ → Bool → Core → Ledger → List Given → Ledger
 ledger B i second core l [] = l
