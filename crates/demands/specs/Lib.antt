@@ -7,3 +7,4 @@ pub mod Demand3
 pub mod Exchange
 pub mod Frauds
 pub mod Examples
+pub mod Claims
