@@ -11,7 +11,6 @@ use Rattle.wire.specs.declared.pid.Pid.{Pid}
 use Rattle.wire.specs.declared.pid.Pid.the-variants.{Checked, Failed}
 use Rattle.wire.specs.declared.token.Token.{Token}
 use Rattle.wire.specs.declared.token.Token.the-variants.{Good, Bad}
-use Rattle.wire.specs.Pid.{number}
 use Rattle.wire.specs.Token.{tokenOf}
 use Rattle.state.specs.declared.Speed.{Speed}
 use Rattle.state.specs.declared.Speed.the-variants.{Full, High}

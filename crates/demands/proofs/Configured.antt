@@ -1,4 +1,4 @@
--- An accepted configure leaves the endpoint as demand 3 begins with it: in its place, at DATA0, and not waited on. Assumes that a call keeps a sound state.
+-- An accepted configure leaves the endpoint as demand 3 begins with it: in its place, at DATA0, and not waited on. Assumes nothing.
 use Prim.Native.Nat.{ℕ, _<_}
 use native.Mathlib.Omega.{arith}
 use mathlib.Core.Path.{_≡_, refl, sym, _∙_, ap, subst}
@@ -25,13 +25,13 @@ use Rattle.firmware.proofs.Refusals.{configure-judges}
 use Rattle.demands.specs.Behaviour.{Lent, Configure, refusal, theCore}
 use Rattle.demands.specs.Host.{Setting}
 use Rattle.demands.specs.Demand3.{Fresh}
-use Rattle.demands.proofs.Spared.{SoundKept}
+use Rattle.demands.proofs.Rules.{call-sound}
 
 -- the host of a record that was configured so
 abbrev pub hostOf : Core → ℕ → Endpoint → List (List ℕ) → Setting
 hostOf core i e payloads = record { index = i; address = core .address; endpoint = e .number; payloads = payloads }
 
-module _ (kept : SoundKept) (core : Core) (lent : Lent) (i : ℕ) (e : Endpoint) (payloads : List (List ℕ)) where
+module _ (core : Core) (lent : Lent) (i : ℕ) (e : Endpoint) (payloads : List (List ℕ)) where
   pub configured-fresh : e .kind ≡ kind.Out → Sound core → refusal (theCore core lent (Configure i Normal e) .answer) ≡ 0 → all (λ x. leb (length x) (e .maximum)) payloads ≡ true → Fresh (hostOf core i e payloads) (theCore core lent (Configure i Normal e) .core)
   unfolding configureOf settled inUse
   configured-fresh out w done none-above = subst (Fresh (hostOf core i e payloads)) (sym left) begins
@@ -56,7 +56,7 @@ module _ (kept : SoundKept) (core : Core) (lent : Lent) (i : ℕ) (e : Endpoint)
           record {
             plays =
                 record {
-                  sound = subst Sound left (kept core lent (Configure i Normal e) w);
+                  sound = subst Sound left (call-sound core lent (Configure i Normal e) w);
                   index-within = index;
                   same-address = refl;
                   is-normal = ap (λ (r : Record). r .condition) now;

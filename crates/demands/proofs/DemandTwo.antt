@@ -30,7 +30,7 @@ use Rattle.bus.proofs.Cases.{kindOfToggle}
 use Rattle.bus.proofs.Errors.{good-first, data-step}
 use Rattle.demands.specs.Behaviour.{Lent, Outcome, theCore}
 use Rattle.demands.specs.Demand2.{isAcceptance, togglePid, InTurn, StoreCase, NakCase, NotGoodCase}
-use Rattle.demands.proofs.Heard.{not-refused, bytesOf, callOf, call-accepted, heard-accepted, memory-accepted}
+use Rattle.demands.proofs.BusCalls.{not-refused, bytesOf, brought, call-accepted, heard-accepted, memory-accepted}
 
 -- ---- the rows after OUT
 
@@ -78,7 +78,7 @@ unfolding taking
 store-case core lent i p t a h =
     let z = not-refused core lent (t .sound) (t .lent-whole) in
     let e = step core lent i p t ∙ ap (placed core i) (takes (core .speed) (recordAt core i) (length (payloadOf p)) (t .not-halted) a h) in (
-      ap isAcceptance (heard-accepted core lent p z ∙ ap (λ (x : Step). bytesOf x p (lent .memory)) e) ∙ accepts (core .speed) (taken (recordAt core i) (length (payloadOf p))) _,
+      ap isAcceptance (heard-accepted core lent p z ∙ ap (λ (x : Step). bytesOf x (payloadOf p) (lent .memory)) e) ∙ accepts (core .speed) (taken (recordAt core i) (length (payloadOf p))) _,
       memory-accepted core lent p z ∙ ap (λ (x : Step). stored (x .store) (payloadOf p) (lent .memory)) e,
     )
 
@@ -86,11 +86,11 @@ pub nak-case : NakCase theCore
 nak-case core lent i p t a =
     let z = not-refused core lent (t .sound) (t .lent-whole) in
     let e = step core lent i p t ∙ ap (placed core i) (no-buffer (core .speed) (recordAt core i) (length (payloadOf p)) (t .not-halted) a) in (
-      heard-accepted core lent p z ∙ ap (λ (x : Step). bytesOf x p (lent .memory)) e,
+      heard-accepted core lent p z ∙ ap (λ (x : Step). bytesOf x (payloadOf p) (lent .memory)) e,
       memory-accepted core lent p z ∙ ap (λ (x : Step). stored (x .store) (payloadOf p) (lent .memory)) e,
     )
 
 pub not-good-case : NotGoodCase theCore
 not-good-case core lent i s p w l e d v =
-    let c = call-accepted core lent p (not-refused core lent w l) ∙ ap (λ (x : Step). callOf x p lent) (by-verdict core i s p verdict.NotGood e d v) in
+    let c = call-accepted core lent p (not-refused core lent w l) ∙ ap (λ (x : Step). brought x (payloadOf p) lent) (by-verdict core i s p verdict.NotGood e d v) in
     (ap (λ (o : Outcome). o .answer) c, ap (λ (o : Outcome). o .lent) c)

@@ -22,7 +22,7 @@ use Rattle.bus.proofs.Lent.{timeout-accepted, timeout-refused}
 use Rattle.demands.specs.Behaviour.{Lent, Call, Start, Configure, Arm, Disarm, SetHalt, ClearHalt, SetAddress, BusReset, RecordEvents, SystemEvents, Packet, Timeout, refusal, Outcome, heard, theCore, Given, run, runFrom}
 use Rattle.demands.specs.History.{Ledger, blank, emptied, stores, acknowledges, added, told, noted, ledger, total, DoneByHistory}
 use Rattle.demands.proofs.Rules.{packet-refusal, call-sound, run-sound}
-use Rattle.demands.proofs.Heard.{call-refused}
+use Rattle.demands.proofs.BusCalls.{call-refused}
 use Rattle.demands.proofs.Counts.{timeout-same}
 use Rattle.demands.proofs.Gains.{gained, packet-gains}
 use Rattle.demands.proofs.LastSent.{Outstanding, none-outstanding, timeout-ends, packet-sent}

@@ -1,33 +1,32 @@
--- A firmware call that spares the endpoint or is refused leaves its record but for buffers and events, stores nothing in it and keeps the wait;
--- while the core waits on the record an active buffer stays active. Assumes nothing.
+-- A firmware call that spares the endpoint or is refused stores nothing in its record and keeps the wait, and an active buffer that is waited on. Assumes nothing.
 use Prim.Native.Nat.{ℕ, _<_}
 use native.Mathlib.Omega.{arith}
 use mathlib.Core.Path.{_≡_, refl, sym, _∙_, ap, subst}
 use mathlib.Core.Bool.{Bool, true, false, not, _&&_, _||_, cond, true≢false, false≢true}
-use mathlib.Core.List.{List, []}
 use lib.Dec.{eqb}
 use lib.ListN.{length}
-use borrow.Author.Tests.{le-ltb, eqb-true, eqb-false, not-true}
+use borrow.Author.Tests.{eqb-true, eqb-false, not-true}
 use Rattle.laws.proofs.Bools.{both, decEq}
 use Rattle.laws.proofs.First.{passed}
 use Rattle.state.specs.declared.Descriptor.{Descriptor}
 use Rattle.state.specs.declared.Descriptor.the-variants.{Unallocated, Armed}
+use Rattle.state.specs.declared.Speed.the-variants.{Full}
 use Rattle.state.specs.declared.Record.{Record}
 use Rattle.state.specs.declared.Core.{Core}
-use Rattle.state.specs.Update.{noEvents, noSystemEvents, withEvents, bufferOf, withBuffer, withAddress, withSystemEvents, recordAt, withRecord}
-use Rattle.state.specs.Ranges.{isControl, isArmed, isUnused}
+use Rattle.state.specs.Update.{noEvents, noSystemEvents, started, withEvents, withBuffer, withAddress, withSystemEvents, recordAt, withRecord}
 use Rattle.state.proofs.Updates.{record-given}
 use Rattle.firmware.specs.Answers.{accepted, refused, judged, settled}
 use Rattle.firmware.specs.Device.{setAddressOf, systemEventsOf}
 use Rattle.firmware.specs.Records.{waitsOn, configureOf, setHaltOf, clearHaltOf, recordEventsOf}
 use Rattle.firmware.specs.Buffers.{isSecond, armTests, armOf, disarmTests, disarmOf}
-use Rattle.firmware.proofs.Refusals.{set-address-judges, bus-reset-judges, system-events-judges, configure-judges, set-halt-judges, clear-halt-judges, record-events-judges, arm-judges, disarm-judges}
 use Rattle.bus.specs.declared.active.Direction.the-variants.{Out}
 use Rattle.bus.specs.Active.{chosen, active}
-use Rattle.demands.specs.Behaviour.{Lent, Call, Start, Configure, Arm, Disarm, SetHalt, ClearHalt, SetAddress, BusReset, RecordEvents, SystemEvents, Packet, Timeout, refusal, theCore}
-use Rattle.demands.specs.Host.{grew, storedIn, Setting, World}
+use Rattle.demands.specs.Behaviour.{Lent, Call, Start, Configure, Arm, Disarm, SetHalt, ClearHalt, SetAddress, BusReset, RecordEvents, SystemEvents, Packet, Timeout, Side, Anew, ByFirmware, OnBus, sideOf, isAnew, isByFirmware, refusal, theCore}
+use Rattle.demands.specs.Host.{grew, Setting, World}
 use Rattle.demands.specs.Demand3.{Plays, spares, isFirmware, permits}
-use Rattle.demands.proofs.Spared.{Spared, Noted, as-it-was, toggle-stays, never-grew, noted-spared, Quiet, quiet-same, quiet-record}
+use Rattle.demands.proofs.Rules.{refused-keeps}
+use Rattle.demands.proofs.Spared.{Spared, Noted, as-it-was, noted-spared, Quiet, quiet-same, within, quiet-placed}
+use Rattle.demands.proofs.Rearmed.{armed-anew, disarmed, buffer-spared, arm-active}
 
 pub record Untouched (i : ℕ) (core core′ : Core) : Type 0 where
   pub same-address : core′ .address ≡ core .address
@@ -53,70 +52,14 @@ module _ (i : ℕ) where
   same : (core : Core) → Untouched i core core
   same core = quiet-untouched core core (quiet-same i core) refl
 
--- ---- a buffer that is armed or disarmed
-
--- no done count moves up
-armed-anew : (base length : ℕ) (d : Descriptor) → grew d (Armed base length 0 false) ≡ false
-armed-anew base length Unallocated = refl
-armed-anew base length (Armed b l done used) = le-ltb done 0 (omega arith)
-
-disarmed : (d : Descriptor) → grew d Unallocated ≡ false
-disarmed Unallocated = refl
-disarmed (Armed b l done used) = refl
-
-buffer-spared : (r : Record) (second : Bool) (d : Descriptor) → ((old : Descriptor) → grew old d ≡ false) → Spared r (withBuffer r second d)
-buffer-spared r second d f = record { same-condition = refl; same-endpoint = refl; same-toggle = refl; none-stored = none second }
-  where
-    none : (second : Bool) (memory : List ℕ) → storedIn r (withBuffer r second d) memory ≡ []
-    none false memory = rw (toggle-stays (r .toggles .«out_side»), f (r .first), never-grew (r .second))
-    none true memory = rw (toggle-stays (r .toggles .«out_side»), never-grew (r .first), f (r .second))
-
--- arming a buffer that is not armed or used: the active one is another, or the marked one is now active
-arm-active : (r : Record) (second : Bool) (base length : ℕ) → isUnused (bufferOf r second) ≡ false → active Out r ≡ true → active Out (withBuffer r second (Armed base length 0 false)) ≡ true
-unfolding active chosen
-arm-active r second base length = go (isControl (r .endpoint .kind)) (r .next) second (r .first) (r .second)
-  where
-    activeOf : Bool → Bool → Descriptor → Descriptor → Bool
-    activeOf control next first other = isUnused (cond (cond control false (cond (isArmed (cond next other first)) next (not next))) other first)
-
-    d : Descriptor
-    d = Armed base length 0 false
-
-    clash : {x : Bool} (P : Type 0) → x ≡ false → x ≡ true → P
-    clash P u a = absurd (true≢false (sym a ∙ u))
-
-    go : (control next second : Bool) (f o : Descriptor) → isUnused (cond second o f) ≡ false → activeOf control next f o ≡ true → activeOf control next (cond second f d) (cond second d o) ≡ true
-    go true next false f o u a = clash _ u a
-    go true next true f o u a = a
-    go false false false Unallocated o u a = refl
-    go false false false (Armed b l x y) o u a = clash _ u a
-    go false false true Unallocated o u a = clash _ u a
-    go false false true (Armed b l x y) o u a = a
-    go false true false f Unallocated u a = clash _ u a
-    go false true false f (Armed b l x y) u a = a
-    go false true true f Unallocated u a = refl
-    go false true true f (Armed b l x y) u a = clash _ u a
-
 -- ---- the calls that spare the endpoint
-
--- a call that is not refused gives the state after it, any other the state before it
-settled-by : (P : Core → Type 0) (n : ℕ) (before after : Core) (number : ℕ) → P before → (n ≡ 0 → P after) → P (settled n before after number .core)
-unfolding settled
-settled-by P n before after number b f = pick (eqb n 0) refl
-  where
-    pick : (x : Bool) → eqb n 0 ≡ x → P (cond x (accepted after number) (refused before n) .core)
-    pick true e = f (eqb-true n 0 e)
-    pick false e = b
 
 module _ (s : Setting) (core : Core) (plays : Plays s core) where
   abbrev i : ℕ
   i = s .index
 
-  at : i < length (core .records)
-  at = omega (arith, plays .index-within, plays .sound .sixteen)
-
   noted-at : (j : ℕ) (q : Record) → (j ≡ i → Noted (recordAt core j) q) → Untouched i core (withRecord core j q)
-  noted-at j q f = quiet-untouched i core (withRecord core j q) (quiet-record i core j q at f) refl
+  noted-at j q f = quiet-untouched i core (withRecord core j q) (quiet-placed s core plays j q (core .wait) f) refl
 
   elsewhere : (j : ℕ) (q : Record) → not (eqb j i) ≡ true → Untouched i core (withRecord core j q)
   elsewhere j q n = noted-at j q (λ e. absurd (eqb-false j i (not-true (eqb j i) n) e))
@@ -137,11 +80,17 @@ module _ (s : Setting) (core : Core) (plays : Plays s core) where
           }
 
       pick : Dec (j ≡ i) → Untouched i core (withRecord core j q)
-      pick (yes e) = subst (λ (k : ℕ). Untouched k core (withRecord core j q)) e (here (omega (arith, at, e)))
+      pick (yes e) = subst (λ (k : ℕ). Untouched k core (withRecord core j q)) e (here (omega (arith, within s core plays, e)))
       pick (no n) = noted-at j q (λ e. absurd (n e))
 
+  -- a call that is not refused gives the state after it, any other the state before it
   settled-untouched : (n : ℕ) (after : Core) (number : ℕ) → (n ≡ 0 → Untouched i core after) → Untouched i core (settled n core after number .core)
-  settled-untouched n after number f = settled-by (Untouched i core) n core after number (same i core) f
+  unfolding settled
+  settled-untouched n after number f = pick (eqb n 0) refl
+    where
+      pick : (b : Bool) → eqb n 0 ≡ b → Untouched i core (cond b (accepted after number) (refused core n) .core)
+      pick true e = f (eqb-true n 0 e)
+      pick false e = same i core
 
   spares-it : (lent : Lent) (c : Call) → spares s c ≡ true → Untouched i core (theCore core lent c .core)
   unfolding configureOf armOf disarmOf setHaltOf clearHaltOf setAddressOf recordEventsOf systemEventsOf
@@ -170,19 +119,13 @@ module _ (s : Setting) (core : Core) (plays : Plays s core) where
 
 -- ---- the calls that are refused
 
+stands : (x : Side) (started core : Core) → isByFirmware x ≡ true → cond (isAnew x) started core ≡ core
+stands Anew started core e = absurd (false≢true e)
+stands ByFirmware started core e = refl
+stands OnBus started core e = absurd (false≢true e)
+
 refused-same : (core : Core) (lent : Lent) (c : Call) → isFirmware c ≡ true → (refusal (theCore core lent c .answer) ≡ 0 → ⊥) → theCore core lent c .core ≡ core
-refused-same core lent (Start M speed) e n = absurd (false≢true e)
-refused-same core lent (Configure j condition x) e n = configure-judges core j condition x .kept n .0
-refused-same core lent (Arm j buffer base size) e n = arm-judges core j buffer base size .kept n .0
-refused-same core lent (Disarm j buffer) e n = disarm-judges core j buffer .kept n .0
-refused-same core lent (SetHalt j) e n = set-halt-judges core j .kept n .0
-refused-same core lent (ClearHalt j) e n = clear-halt-judges core j .kept n .0
-refused-same core lent (SetAddress address) e n = set-address-judges core address .kept n .0
-refused-same core lent (BusReset speed) e n = bus-reset-judges core speed .kept n .0
-refused-same core lent (RecordEvents j) e n = record-events-judges core j .kept n .0
-refused-same core lent SystemEvents e n = system-events-judges core .kept n .0
-refused-same core lent (Packet p) e n = absurd (false≢true e)
-refused-same core lent Timeout e n = absurd (false≢true e)
+refused-same core lent c e n = refused-keeps core lent c n .0 ∙ stands (sideOf c) (started 0 Full) core e
 
 pub permitted : (s : Setting) (w : World) → Plays s (w .core) → (lent : Lent) (c : Call) → permits theCore s w lent c ≡ true → Untouched (s .index) (w .core) (theCore (w .core) lent c .core)
 permitted s w plays lent c = pick (spares s c) refl

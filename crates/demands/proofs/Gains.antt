@@ -37,7 +37,7 @@ use Rattle.bus.proofs.Errors.{good-first}
 use Rattle.demands.specs.Behaviour.{Lent, Packet, Outcome, heard, theCore}
 use Rattle.demands.specs.Demand2.{isAcceptance}
 use Rattle.demands.specs.History.{isGoodAs, expected, stores, acknowledges}
-use Rattle.demands.proofs.Heard.{bytesOf, call-accepted, call-refused, heard-accepted}
+use Rattle.demands.proofs.BusCalls.{bytesOf, call-accepted, call-refused, heard-accepted}
 use Rattle.demands.proofs.Counts.{done, doneIn, sends-armed, acknowledged-grows, token-same, each-after, same-after, timeout-same}
 use Rattle.demands.proofs.Taking.{Accounted, accounted}
 
@@ -97,7 +97,7 @@ idle-same p i k c u =
 
 module _ (core : Core) (w : Sound core) (p memory : List ℕ) (i : ℕ) (k : Bool) where
   abbrev Moves : Step → Type 0
-  Moves x = doneIn (x .core) i k ≡ doneIn core i k + gained i k core (core .wait) p (bytesOf x p memory)
+  Moves x = doneIn (x .core) i k ≡ doneIn core i k + gained i k core (core .wait) p (bytesOf x (payloadOf p) memory)
 
   abbrev n : ℕ
   n = length (payloadOf p)
@@ -123,7 +123,7 @@ module _ (core : Core) (w : Sound core) (p memory : List ℕ) (i : ℕ) (k : Boo
       each-after core w j (x .0) (turn .after) i (λ (m : ℕ) (y : Record). done y k ≡ doneIn core m k + cond (taken-as j s turn m) n 0)
       (stored-here j s turn (accounted (recordAt core j) (verdictOf p) n (core .speed) s (x .1 .stage-fits)))
       (stored-elsewhere j s turn)
-      ∙ ap (λ (v : Wait). doneIn core i k + gained i k core v p (bytesOf (placed core j turn) p memory)) (sym e)
+      ∙ ap (λ (v : Wait). doneIn core i k + gained i k core v p (bytesOf (placed core j turn) (payloadOf p) memory)) (sym e)
     where
       turn : Turn
       turn = dataTurn (core .speed) s (recordAt core j) (verdictOf p) n
@@ -133,7 +133,7 @@ module _ (core : Core) (w : Sound core) (p memory : List ℕ) (i : ℕ) (k : Boo
       each-after core w j (x .0) (turn .after) i (λ (m : ℕ) (y : Record). done y k ≡ doneIn core m k + cond (acknowledges m k j buffer p) sent 0)
       (acknowledged-grows (recordAt core j) buffer sent (sends-armed (recordAt core j .endpoint .maximum) sent (bufferOf (recordAt core j) buffer) (x .1 .sent-so-many)) k ∙ ap (λ (b : Bool). doneIn core j k + cond b sent 0) (sym (three-hold (eqb j j) (Bool·beq k buffer) (isAck p) (eq-eqb j j refl) a)))
       (λ h. unmoved (doneIn core i k) sent (acknowledges i k j buffer p) (rw (ne-eqb j i h)))
-      ∙ ap (λ (v : Wait). doneIn core i k + gained i k core v p (bytesOf (placed core j turn) p memory)) (sym e)
+      ∙ ap (λ (v : Wait). doneIn core i k + gained i k core v p (bytesOf (placed core j turn) (payloadOf p) memory)) (sym e)
     where
       turn : Turn
       turn = acknowledged (recordAt core j) buffer sent

@@ -105,41 +105,32 @@ module _ (n : ℕ) (payload : List ℕ) (d : isData (kindOf n) ≡ true) (short 
       ap (λ (w : Written). take (length payload + 3) (bufferBy w n payload blank)) (laid .written)
       ∙ take-at (packet n payload) (drop (length payload + 3) blank) (length payload + 3) size
 
-module _ (toggle : Bool) (payload : List ℕ) where
-  pub data-first : isDataFirst (packet (number (kindOfToggle toggle)) payload) ≡ true
-  unfolding isDataFirst packet pidOf pidByte kindOf
-  data-first = go toggle
-    where
-      go : (t : Bool) → isDataFirst (packet (number (kindOfToggle t)) payload) ≡ true
-      go true = refl
-      go false = refl
+pub data-first : (toggle : Bool) (payload : List ℕ) → isDataFirst (packet (number (kindOfToggle toggle)) payload) ≡ true
+unfolding isDataFirst packet pidOf pidByte kindOf
+data-first true payload = refl
+data-first false payload = refl
 
-  pub data-not-ours : (s : Setting) → isOurToken s (packet (number (kindOfToggle toggle)) payload) ≡ false
-  unfolding isOurToken packet pidByte
-  data-not-ours s = go toggle
-    where
-      go : (t : Bool) → isOurToken s (packet (number (kindOfToggle t)) payload) ≡ false
-      go true = refl
-      go false = refl
+pub data-not-ours : (s : Setting) (toggle : Bool) (payload : List ℕ) → isOurToken s (packet (number (kindOfToggle toggle)) payload) ≡ false
+unfolding isOurToken packet pidByte
+data-not-ours s true payload = refl
+data-not-ours s false payload = refl
 
-  pub data-opens-none : (s : Setting) → opens s (packet (number (kindOfToggle toggle)) payload) ≡ false
-  unfolding opens packet pidByte
-  data-opens-none s = go toggle
-    where
-      go : (t : Bool) → opens s (packet (number (kindOfToggle t)) payload) ≡ false
-      go true = refl
-      go false = refl
+pub data-opens-none : (s : Setting) (toggle : Bool) (payload : List ℕ) → opens s (packet (number (kindOfToggle toggle)) payload) ≡ false
+unfolding opens packet pidByte
+data-opens-none s true payload = refl
+data-opens-none s false payload = refl
 
-  module _ (short : length payload ≤ 1024) where
-    pub data-reads : verdictOf (packet (number (kindOfToggle toggle)) payload) ≡ verdict.Good (kindOfToggle toggle)
-    data-reads =
-        let n = number (kindOfToggle toggle) in
-        ap verdictOf (sym (in-front n payload (is-data toggle) short)) ∙ laid n payload (is-data toggle) short .verdict-back ∙ ap verdict.Good (kind-number (kindOfToggle toggle))
+module _ (toggle : Bool) (payload : List ℕ) (short : length payload ≤ 1024) where
+  abbrev n : ℕ
+  n = number (kindOfToggle toggle)
 
-    pub data-payload : payloadOf (packet (number (kindOfToggle toggle)) payload) ≡ payload
-    data-payload =
-        let n = number (kindOfToggle toggle) in
-        ap payloadOf (sym (in-front n payload (is-data toggle) short)) ∙ laid n payload (is-data toggle) short .payload-back
+  pub data-reads : verdictOf (packet n payload) ≡ verdict.Good (kindOfToggle toggle)
+  data-reads =
+      ap verdictOf (sym (in-front n payload (is-data toggle) short)) ∙ laid n payload (is-data toggle) short .verdict-back
+      ∙ ap verdict.Good (kind-number (kindOfToggle toggle))
+
+  pub data-payload : payloadOf (packet n payload) ≡ payload
+  data-payload = ap payloadOf (sym (in-front n payload (is-data toggle) short)) ∙ laid n payload (is-data toggle) short .payload-back
 
 -- ---- a packet that fails its check
 

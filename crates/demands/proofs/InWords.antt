@@ -9,10 +9,6 @@ use Rattle.demands.specs.Demand3.{Allowed, AllAllowed, calls, Demand3}
 use Rattle.demands.specs.Exchange.{Fate, Arrives, Lost, Fails, Exchange, tokenPart, dataPart, Rest, Done, Follows, CutShort, restPart, Remainder, remaining, Episode, Ours, Theirs, Calls, played, episodes, trace, FailsCheck, Closed, Fair, AllFair, AllProper, Demand3InWords}
 use Rattle.demands.proofs.HostPackets.{failing}
 
-and-false : (b : Bool) → (b && false) ≡ false
-and-false true = refl
-and-false false = refl
-
 module _ (B : Behaviour) (s : Setting) where
   -- a stretch that is allowed, and leaves no exchange open
   record Ends (w : World) (hs : List Happening) : Type 0 where
@@ -62,21 +58,21 @@ module _ (B : Behaviour) (s : Setting) where
   data-ends Lost Lost h l w f e p = record { allowed = tt; closed = e }
   data-ends (Fails q) Lost h l w f e p = record { allowed = tt; closed = e }
 
-  exchange-ends : (t : Fate) (x : Exchange) (w : World) → w .exchange ≡ Nobody → FailsCheck t → FailsCheck (x .data-fate) → let inner = calls (x .inside) ++ dataPart t (x .data-fate) (x .is-heard) (x .lent-data) in AllProper B s w (tokenPart t (x .lent-token) ++ inner) → Ends w (tokenPart t (x .lent-token) ++ inner)
-  exchange-ends t x w e f g p = go t w e f p
-    where
-      rest : Fate → List Happening
-      rest t = dataPart t (x .data-fate) (x .is-heard) (x .lent-data)
+  module _ (x : Exchange) (g : FailsCheck (x .data-fate)) where
+    abbrev behindToken : Fate → List Happening
+    behindToken t = calls (x .inside) ++ dataPart t (x .data-fate) (x .is-heard) (x .lent-data)
 
-      after-token : (t : Fate) (v : World) → v .exchange ≡ openOf t → AllProper B s v (calls (x .inside) ++ rest t) → Ends v (calls (x .inside) ++ rest t)
-      after-token t v o p = calls-end (x .inside) (rest t) v p (λ u c q. data-ends t (x .data-fate) (x .is-heard) (x .lent-data) u g (c ∙ o) q)
+    token-behind : (t : Fate) (w : World) → w .exchange ≡ openOf t → AllProper B s w (behindToken t) → Ends w (behindToken t)
+    token-behind t w o p =
+        calls-end (x .inside) (dataPart t (x .data-fate) (x .is-heard) (x .lent-data)) w p
+        (λ v c q. data-ends t (x .data-fate) (x .is-heard) (x .lent-data) v g (c ∙ o) q)
 
-      go : (t : Fate) (w : World) → w .exchange ≡ Nobody → FailsCheck t → AllProper B s w (tokenPart t (x .lent-token) ++ (calls (x .inside) ++ rest t)) → Ends w (tokenPart t (x .lent-token) ++ (calls (x .inside) ++ rest t))
-      go Arrives w e f p = behind w (TokenArrives (x .lent-token)) _ (p .0) (after-token Arrives _ refl (p .1))
-      go Lost w e f p = after-token Lost w e p
-      go (Fails q) w e f p =
-          let y = failing s q f in
-          behind w (OtherArrives (x .lent-token) q) _ (p .0, y .not-ours, rw (y .not-good) (and-false (isThis (w .exchange)))) (after-token (Fails q) _ (rw (y .opens-none)) (p .1))
+    exchange-ends : (t : Fate) (w : World) → w .exchange ≡ Nobody → FailsCheck t → AllProper B s w (tokenPart t (x .lent-token) ++ behindToken t) → Ends w (tokenPart t (x .lent-token) ++ behindToken t)
+    exchange-ends Arrives w e f p = behind w (TokenArrives (x .lent-token)) _ (p .0) (token-behind Arrives _ refl (p .1))
+    exchange-ends Lost w e f p = token-behind Lost w e p
+    exchange-ends (Fails q) w e f p =
+        let y = failing s q f in
+        behind w (OtherArrives (x .lent-token) q) _ (p .0, y .not-ours, rw e) (token-behind (Fails q) _ (rw (y .opens-none)) (p .1))
 
   -- ---- an exchange of another endpoint
 
@@ -97,7 +93,7 @@ module _ (B : Behaviour) (s : Setting) where
   -- ---- every episode
 
   episode-ends : (x : Episode) (w : World) → w .exchange ≡ Nobody → Fair s x → AllProper B s w (played x) → Ends w (played x)
-  episode-ends (Ours x) w e f p = exchange-ends (x .token-fate) x w e (f .0) (f .1) p
+  episode-ends (Ours x) w e f p = exchange-ends x (f .1) (x .token-fate) w e (f .0) p
   episode-ends (Theirs q l m) w e f p =
       behind w (OtherArrives l q) (remaining m) (p .0, f .0, rw e) (remainder-ends (opens s q) m _ (f .1) refl (p .1))
   episode-ends (Calls cs) w e f p = calls-alone cs w e p

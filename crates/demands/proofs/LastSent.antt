@@ -39,7 +39,7 @@ use Rattle.bus.proofs.Within.{says-within}
 use Rattle.bus.proofs.Lent as lending
 use Rattle.demands.specs.Behaviour.{Lent, Packet, Outcome, heard, theCore}
 use Rattle.demands.specs.History.{sentBy}
-use Rattle.demands.proofs.Heard.{bytesOf, call-accepted, heard-accepted}
+use Rattle.demands.proofs.BusCalls.{bytesOf, call-accepted, heard-accepted}
 
 -- the length whose ACK is awaited is that of these bytes
 abbrev pub Outstanding : Wait → List ℕ → Type 0
@@ -113,7 +113,7 @@ module _ (p memory sent : List ℕ) where
       in-by r Sends i (record { in-stall = λ x. tt; in-nak = λ a x. tt; in-send = λ a x. sent-so-many (r .toggles .«in_side») (placeOf (chosenBuffer In r)) (countOf r) memory sent (x .0) })
 
   abbrev Leaves : Step → Type 0
-  Leaves x = SaysWithin (x .says) (length memory) → Outstanding (x .core .wait) (sentBy (bytesOf x p memory) sent)
+  Leaves x = SaysWithin (x .says) (length memory) → Outstanding (x .core .wait) (sentBy (bytesOf x (payloadOf p) memory) sent)
 
   idle-leaves : (c : Core) → Sound c → c .wait ≡ Nothing → Leaves (noWait c p)
   idle-leaves c u e =
@@ -140,5 +140,5 @@ module _ (p memory sent : List ℕ) where
 pub packet-sent : (core : Core) → Sound core → (lent : Lent) (p sent : List ℕ) → lendRefusal core (lent .memory) (lent .reply) ≡ 0 → Outstanding (theCore core lent (Packet p) .core .wait) (sentBy (heard (theCore core lent (Packet p))) sent)
 packet-sent core w lent p sent z =
     subst (λ (l : List ℕ). Outstanding (theCore core lent (Packet p) .core .wait) (sentBy l sent)) (sym (heard-accepted core lent p z))
-    (subst (λ (o : Outcome). Outstanding (o .core .wait) (sentBy (bytesOf (packetStep core p) p (lent .memory)) sent)) (sym (call-accepted core lent p z))
+    (subst (λ (o : Outcome). Outstanding (o .core .wait) (sentBy (bytesOf (packetStep core p) (payloadOf p) (lent .memory)) sent)) (sym (call-accepted core lent p z))
     (step-leaves p (lent .memory) sent core w (subst (SaysWithin (packetStep core p .says)) (sym (lending.lent core (lent .memory) (lent .reply) z .whole)) (says-within core w p))))

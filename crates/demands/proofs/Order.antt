@@ -24,7 +24,7 @@ use Rattle.bus.specs.Calls.{lendRefusal}
 use Rattle.demands.specs.Behaviour.{Packet, Outcome, heard, theCore}
 use Rattle.demands.specs.Demand2.{isAcceptance, MarkCase}
 use Rattle.demands.specs.History.{isGoodAs, expected}
-use Rattle.demands.proofs.Heard.{call-refused}
+use Rattle.demands.proofs.BusCalls.{call-refused}
 use Rattle.demands.proofs.Counts.{doneIn}
 use Rattle.demands.proofs.Gains.{gained, packet-gains}
 

@@ -24,7 +24,7 @@ use Rattle.bus.specs.declared.turn.Says.the-variants.{Ack, Nak}
 use Rattle.bus.specs.declared.turn.Turn.{Turn}
 use Rattle.bus.specs.declared.turn.Step.{Step}
 use Rattle.bus.specs.Turn.{written, said, saying, placed}
-use Rattle.bus.specs.Active.{chosenBuffer, active, placeOf}
+use Rattle.bus.specs.Active.{chosen, chosenBuffer, active, placeOf}
 use Rattle.bus.specs.Tokens.{isHalted}
 use Rattle.bus.specs.Data.{taken, taking, afterOut, dataTurn}
 use Rattle.bus.specs.Arrival.{dataStep, packetStep}
@@ -34,26 +34,19 @@ use Rattle.bus.proofs.Errors.{data-step}
 use Rattle.bus.proofs.Stretches.{bytes-there, stored-call}
 use Rattle.demands.specs.Behaviour.{Lent, Packet, Outcome, heard, theCore}
 use Rattle.demands.specs.Demand2.{lends, isAcceptance}
-use Rattle.demands.specs.Host.{storedIn, storedBy, Setting, odd, dataPacket, waitsForData}
+use Rattle.demands.specs.Host.{storedBy, Setting, odd, dataPacket, waitsForData}
 use Rattle.demands.specs.Demand3.{Plays}
-use Rattle.demands.proofs.Spared.{as-it-was, Quiet, quiet-record}
+use Rattle.demands.proofs.Spared.{as-it-was, within, quiet-placed}
 use Rattle.demands.proofs.HostPackets.{data-first, data-reads, data-payload}
 use Rattle.demands.proofs.OurToken.{maximum-small}
 use Rattle.demands.proofs.BusCalls.{brought, not-refused, packet-brings, heard-said}
-use Rattle.demands.proofs.Storing.{is-taken}
-
--- nothing is stored, the wait ends, and the answer is an acceptance or not
-pub record Unstored (s : Setting) (core : Core) (accepted : Bool) (o : Outcome) : Type 0 where
-  pub quiet : Quiet (s .index) core (o .core)
-  pub ended : waitsForData (o .core .wait) ≡ false
-  pub answer : isAcceptance (heard o) ≡ accepted
+use Rattle.demands.proofs.Unanswered.{Unstored}
+use Rattle.demands.proofs.Storing.{Taken, is-taken}
 
 -- the payload is stored, the wait ends, and the answer is an acceptance
 pub record Took (s : Setting) (core : Core) (payload : List ℕ) (o : Outcome) : Type 0 where
   pub same-address : o .core .address ≡ core .address
-  pub same-condition : recordAt (o .core) (s .index) .condition ≡ recordAt core (s .index) .condition
-  pub same-endpoint : recordAt (o .core) (s .index) .endpoint ≡ recordAt core (s .index) .endpoint
-  pub flipped : recordAt (o .core) (s .index) .toggles .«out_side» ≡ not (recordAt core (s .index) .toggles .«out_side»)
+  pub its-record : Taken (recordAt core (s .index)) (chosen Out (recordAt core (s .index))) (length payload) (recordAt (o .core) (s .index))
   pub one-stored : storedBy (s .index) core o ≡ (payload ∷ [])
   pub ended : waitsForData (o .core .wait) ≡ false
   pub answer : isAcceptance (heard o) ≡ true
@@ -119,15 +112,11 @@ module _ (s : Setting) (core : Core) (lent : Lent) (k : ℕ) (a : Awaited s core
 
   -- ---- a handshake, and nothing else
 
-  at : i < length (core .records)
-  at = omega (arith, a .plays .index-within, a .plays .sound .sixteen)
-
   answered : (x : Says) (accepted : Bool) → isAcceptance (said x (lent .memory)) ≡ accepted → afterOut (core .speed) r (odd k) (length payload) ≡ saying r x → Unstored s core accepted call
   answered x accepted h e =
-      let q = quiet-record i core i r at (λ f. as-it-was r) in
       subst (Unstored s core accepted) (sym (brings (saying r x) e))
       (record {
-        quiet = record { same-address = refl; only-events = q .only-events };
+        quiet = quiet-placed s core (a .plays) i r _ (λ f. as-it-was r);
         ended = refl;
         answer = ap isAcceptance (heard-said (placed core i (saying r x)) payload lent) ∙ h;
       })
@@ -166,18 +155,15 @@ module _ (s : Setting) (core : Core) (lent : Lent) (k : ℕ) (a : Awaited s core
           subst (λ (x : List ℕ). place + length x ≤ length (lent .memory)) its-payload
           (stored-call core (lent .memory) (lent .reply) (dataPacket s k) place (not-refused core lent (a .plays .sound) (a .lent-whole)) (ap (λ (x : Step). x .store) (data-placed ∙ ap (placed core i) step)) .1)
 
-      now : recordAt (withRecord core i q) i ≡ q
-      now = record-given core i q at
+      its-record : Taken r (chosen Out r) (length payload) (recordAt (withRecord core i q) i)
+      its-record = subst (Taken r (chosen Out r) (length payload)) (sym (record-given core i q (within s core (a .plays)))) (is-taken r (length payload))
 
       here : Took s core payload (brought (placed core i turn) payload lent)
       here =
-          let t = is-taken r (length payload) in
           record {
             same-address = refl;
-            same-condition = ap (λ (x : Record). x .condition) now ∙ t .same-condition;
-            same-endpoint = ap (λ (x : Record). x .endpoint) now ∙ t .same-endpoint;
-            flipped = ap (λ (x : Record). x .toggles .«out_side») now ∙ t .flipped;
-            one-stored = ap (λ (x : Record). storedIn r x memory) now ∙ t .one-stored memory n ∙ ap (λ (x : List ℕ). x ∷ []) (bytes-there (lent .memory) payload place room);
+            its-record = its-record;
+            one-stored = its-record .one-stored memory n ∙ ap (λ (x : List ℕ). x ∷ []) (bytes-there (lent .memory) payload place room);
             ended = refl;
             answer = ap isAcceptance (heard-said (placed core i turn) payload lent) ∙ accepted-by (λ (x : Says). isAcceptance (said x memory) ≡ true) refl refl (core .speed) q;
           }

@@ -7,13 +7,12 @@ use mathlib.Core.List.{[], _∷_}
 use lib.Dec.{leb}
 use borrow.Author.Tests.{leb-true, eq-eqb}
 use Rattle.laws.proofs.Bools.{parts}
-use Rattle.wire.specs.declared.token.Token.{Token}
 use Rattle.wire.specs.declared.pid.Pid.{Pid}
 use Rattle.state.specs.declared.Record.{Record}
 use Rattle.state.specs.declared.Stage.the-variants as stage
 use Rattle.state.specs.declared.Wait.the-variants as wait
 use Rattle.state.specs.declared.Core.{Core}
-use Rattle.state.specs.Update.{recordAt, withRecord}
+use Rattle.state.specs.Update.{recordAt}
 use Rattle.state.specs.Ranges.{live, typeFits, maximumFits, endpointFits, LiveSound}
 use Rattle.state.proofs.Kept.{as-live}
 use Rattle.bus.specs.declared.active.Direction.the-variants.{Out}
@@ -28,13 +27,15 @@ use Rattle.bus.specs.Idle.{foundAs, addressed, byPid, meeting, metBy, noWait}
 use Rattle.bus.specs.Arrival.{timedOut, packetStep}
 use Rattle.bus.proofs.Sizes.{maximum-most}
 use Rattle.bus.proofs.Finding.{Searched, searched}
-use Rattle.bus.proofs.KeepsSound.{timeout-sound}
 use Rattle.bus.proofs.Cases.{packet-by}
+use Rattle.demands.specs.Behaviour.{Lent, Packet, theCore}
+use Rattle.demands.specs.Demand2.{lends}
 use Rattle.demands.specs.Host.{Setting, outToken}
 use Rattle.demands.specs.Demand3.{Plays}
-use Rattle.demands.proofs.Spared.{as-it-was, Quiet, quiet-then, quiet-record, plays-quiet}
+use Rattle.demands.proofs.Spared.{as-it-was, Quiet, quiet-then, quiet-placed}
 use Rattle.demands.proofs.HostPackets.{token-first, token-no-data, token-no-ack, token-reads}
-use Rattle.demands.proofs.OtherPackets.{timeout-quiet}
+use Rattle.demands.proofs.BusCalls.{packet-core}
+use Rattle.demands.proofs.Late.{timeout-quiet, still-plays}
 
 module _ (s : Setting) (core : Core) (plays : Plays s core) where
   abbrev r : Record
@@ -74,27 +75,29 @@ module _ (s : Setting) (core : Core) (plays : Plays s core) where
       ∙ ap (addressed core asks.Out) (token-reads s (omega (arith, a, plays .same-address)) number-small)
       ∙ rw (eq-eqb (s .address) (core .address) (sym (plays .same-address))) (ap (foundAs asks.Out) found)
 
-  idle-opens : Quiet (s .index) core (noWait core (outToken s) .core) × (noWait core (outToken s) .core .wait ≡ wait.Data (s .index) stage.Out)
+  -- the record is left alone, and the core waits for data after OUT on it
+  pub record Opened (core′ : Core) : Type 0 where
+    pub quiet : Quiet (s .index) core core′
+    pub waits : core′ .wait ≡ wait.Data (s .index) stage.Out
+
+  idle-opens : Opened (noWait core (outToken s) .core)
   unfolding noWait
   idle-opens =
-      subst (λ (x : idle.Met). Quiet (s .index) core (metBy core x .core) × (metBy core x .core .wait ≡ wait.Data (s .index) stage.Out)) (sym token-met)
-      (record { same-address = refl; only-events = again .only-events }, refl)
+      subst (λ (x : idle.Met). Opened (metBy core x .core)) (sym token-met)
+      (record { quiet = quiet-placed s core plays (s .index) r _ (λ e. as-it-was r); waits = refl })
+
+module _ (s : Setting) (core : Core) (plays : Plays s core) where
+  step-opens : Opened s core plays (packetStep core (outToken s) .core)
+  step-opens =
+      packet-by core (outToken s) (λ (x : Step). Opened s core plays (x .core)) (plays .sound)
+      (record {
+        awaited-data = λ i x e d v. absurd (true≢false (sym d ∙ token-no-data s));
+        awaited-ack = λ i b n e a v. absurd (true≢false (sym a ∙ token-no-ack s));
+        idle = λ e. record { quiet = quiet-then (s .index) core (timedOut core) _ (timeout-quiet core (plays .sound) (s .index)) (opened .quiet); waits = opened .waits };
+      })
     where
-      again : Quiet (s .index) core (withRecord core (s .index) r)
-      again = quiet-record (s .index) core (s .index) r (omega (arith, plays .index-within, plays .sound .sixteen)) (λ e. as-it-was r)
+      opened : Opened s (timedOut core) (still-plays s core plays) (noWait (timedOut core) (outToken s) .core)
+      opened = idle-opens s (timedOut core) (still-plays s core plays)
 
--- the record is left alone, and the core waits for data after OUT on it
-pub token-opens : (s : Setting) (core : Core) → Plays s core → Quiet (s .index) core (packetStep core (outToken s) .core) × (packetStep core (outToken s) .core .wait ≡ wait.Data (s .index) stage.Out)
-token-opens s core plays =
-    packet-by core (outToken s) (λ (x : Step). Quiet (s .index) core (x .core) × (x .core .wait ≡ wait.Data (s .index) stage.Out)) (plays .sound)
-    (record {
-      awaited-data = λ i x e d v. absurd (true≢false (sym d ∙ token-no-data s));
-      awaited-ack = λ i b n e a v. absurd (true≢false (sym a ∙ token-no-ack s));
-      idle = λ e. (quiet-then (s .index) core (timedOut core) _ late (idle .0), idle .1);
-    })
-  where
-    late : Quiet (s .index) core (timedOut core)
-    late = timeout-quiet core (plays .sound) (s .index)
-
-    idle : Quiet (s .index) (timedOut core) (noWait (timedOut core) (outToken s) .core) × (noWait (timedOut core) (outToken s) .core .wait ≡ wait.Data (s .index) stage.Out)
-    idle = idle-opens s (timedOut core) (plays-quiet s core (timedOut core) plays (timeout-sound core (plays .sound)) late)
+  pub token-opens : (lent : Lent) → lends core lent ≡ true → Opened s core plays (theCore core lent (Packet (outToken s)) .core)
+  token-opens lent l = subst (Opened s core plays) (packet-core core lent (plays .sound) l (outToken s)) step-opens

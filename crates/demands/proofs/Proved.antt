@@ -1,7 +1,7 @@
 -- What is proved, in one place: every claim holds of document 01's core, and every fraud breaks those that are named against it. Assumes nothing.
 use Rattle.demands.specs.Behaviour.{theCore}
 use Rattle.demands.specs.Claims.{Claims, FraudsFail}
-use Rattle.demands.proofs.Rules.{call-sound, demand1}
+use Rattle.demands.proofs.Rules.{demand1}
 use Rattle.demands.proofs.DemandTwo.{store-case, nak-case, not-good-case}
 use Rattle.demands.proofs.Done.{done-by-history}
 use Rattle.demands.proofs.Order.{mark-case}
@@ -18,8 +18,8 @@ proved =
       silent-where-broken = not-good-case;
       by-the-mark = mark-case;
       done-by-history = done-by-history;
-      demand3 = demand3 call-sound;
-      demand3-in-words = in-words theCore (demand3 call-sound);
+      demand3 = demand3;
+      demand3-in-words = in-words theCore demand3;
     }
 
 pub frauds-fail : FraudsFail

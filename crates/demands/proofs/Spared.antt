@@ -14,17 +14,13 @@ use Rattle.state.specs.declared.RecordEvents.{RecordEvents}
 use Rattle.state.specs.declared.Descriptor.{Descriptor}
 use Rattle.state.specs.declared.Descriptor.the-variants.{Unallocated, Armed}
 use Rattle.state.specs.declared.Record.{Record}
+use Rattle.state.specs.declared.Wait.{Wait}
 use Rattle.state.specs.declared.Core.{Core}
-use Rattle.state.specs.Update.{withEvents, recordAt, withRecord}
+use Rattle.state.specs.Update.{withEvents, withWait, recordAt, withRecord}
 use Rattle.state.specs.Sound.{Sound}
 use Rattle.state.proofs.Updates.{record-given, other-record}
-use Rattle.demands.specs.Behaviour.{Lent, Call, theCore}
 use Rattle.demands.specs.Host.{grew, storedIn, Setting}
 use Rattle.demands.specs.Demand3.{Plays}
-
--- every call takes a sound state to a sound state
-abbrev pub SoundKept : Type 0
-SoundKept = (core : Core) (lent : Lent) (call : Call) → Sound core → Sound (theCore core lent call .core)
 
 -- ---- a record
 
@@ -80,19 +76,20 @@ module _ (i : ℕ) where
         only-events = (q .only-events .0, q .only-events .1 ∙ ap (λ (r : Record). withEvents r (q .only-events .0)) (p .only-events .1));
       }
 
-  -- record j is given anew: another record, or with other events
-  pub quiet-record : (core : Core) (j : ℕ) (q : Record) → i < length (core .records) → (j ≡ i → Noted (recordAt core j) q) → Quiet i core (withRecord core j q)
-  quiet-record core j q h f = pick (decEq j i)
-    where
-      pick : Dec (j ≡ i) → Quiet i core (withRecord core j q)
-      pick (no n) = record { same-address = refl; only-events = (recordAt core i .events, other-record core j i q (λ e. n (sym e))) }
-      pick (yes e) =
-          record {
-            same-address = refl;
-            only-events = (f e .0, subst (λ (k : ℕ). recordAt (withRecord core j q) k ≡ withEvents (recordAt core k) (f e .0)) e (record-given core j q (omega (arith, h, e)) ∙ f e .1));
-          }
-
 -- ---- the endpoint
+
+pub within : (s : Setting) (core : Core) → Plays s core → s .index < length (core .records)
+within s core p = omega (arith, p .index-within, p .sound .sixteen)
+
+-- record j is given anew, and the wait: it is another record, or only its events differ
+pub quiet-placed : (s : Setting) (core : Core) → Plays s core → (j : ℕ) (q : Record) (v : Wait) → (j ≡ s .index → Noted (recordAt core j) q) → Quiet (s .index) core (withWait (withRecord core j q) v)
+quiet-placed s core p j q v f = record { same-address = refl; only-events = pick (decEq j (s .index)) }
+  where
+    pick : Dec (j ≡ s .index) → Noted (recordAt core (s .index)) (recordAt (withRecord core j q) (s .index))
+    pick (no n) = (recordAt core (s .index) .events, other-record core j (s .index) q (λ e. n (sym e)))
+    pick (yes e) =
+        subst (λ (k : ℕ). Noted (recordAt core k) (recordAt (withRecord core j q) k)) e
+        (f e .0, record-given core j q (omega (arith, within s core p, e)) ∙ f e .1)
 
 pub plays-on : (s : Setting) (core core′ : Core) → Plays s core → Sound core′ → core′ .address ≡ core .address → recordAt core′ (s .index) .condition ≡ recordAt core (s .index) .condition → recordAt core′ (s .index) .endpoint ≡ recordAt core (s .index) .endpoint → Plays s core′
 plays-on s core core′ p w a c e =

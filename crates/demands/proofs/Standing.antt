@@ -27,7 +27,7 @@ use Rattle.bus.proofs.Stretches.{bytes-there, stored-call}
 use Rattle.demands.specs.Behaviour.{Lent, Packet, Outcome, heard, theCore}
 use Rattle.demands.specs.Demand2.{isAcceptance}
 use Rattle.demands.specs.History.{isGoodAs, expected, stores}
-use Rattle.demands.proofs.Heard.{bytesOf, heard-accepted, heard-refused}
+use Rattle.demands.proofs.BusCalls.{bytesOf, heard-accepted, heard-refused}
 use Rattle.demands.proofs.Taking.{Accounted, accounted}
 use Rattle.demands.proofs.Gains.{unread}
 
@@ -47,19 +47,19 @@ module _ (core : Core) (w : Sound core) (lent : Lent) (i : ℕ) (s : Stage) (p :
     turn = dataTurn (core .speed) s (recordAt core i) (verdictOf p) (length (payloadOf p))
 
     -- the step's answer says that the payload was taken, so it is stored
-    store-place : isAcceptance (bytesOf (packetStep core p) p (lent .memory)) ≡ true → packetStep core p .store ≡ At (placeOf (chosenBuffer Out (recordAt core i)))
+    store-place : isAcceptance (bytesOf (packetStep core p) (payloadOf p) (lent .memory)) ≡ true → packetStep core p .store ≡ At (placeOf (chosenBuffer Out (recordAt core i)))
     unfolding dataStep
     store-place a =
         ap (λ (x : Step). x .store) (data-step core i s p e data-first)
         ∙ go (accounted (recordAt core i) (verdictOf p) (length (payloadOf p)) (core .speed) s (subst (WaitSound core) e (w .wait-sound) .1 .stage-fits))
       where
-        said-so : isAcceptance (bytesOf (dataStep core i s p) p (lent .memory)) ≡ true
-        said-so = subst (λ (x : Step). isAcceptance (bytesOf x p (lent .memory)) ≡ true) (data-step core i s p e data-first) a
+        said-so : isAcceptance (bytesOf (dataStep core i s p) (payloadOf p) (lent .memory)) ≡ true
+        said-so = subst (λ (x : Step). isAcceptance (bytesOf x (payloadOf p) (lent .memory)) ≡ true) (data-step core i s p e data-first) a
 
         go : Accounted (recordAt core i) s (verdictOf p) (length (payloadOf p)) turn → turn .store ≡ At (placeOf (chosenBuffer Out (recordAt core i)))
         go (inl x) = x .place
         go (inr x) =
-            absurd (true≢false (sym (ap (λ (b : Bool). b && isAcceptance (bytesOf (dataStep core i s p) p (lent .memory))) good ∙ said-so) ∙ x .not-told _))
+            absurd (true≢false (sym (ap (λ (b : Bool). b && isAcceptance (bytesOf (dataStep core i s p) (payloadOf p) (lent .memory))) good ∙ said-so) ∙ x .not-told _))
 
     stands-here : isAcceptance (heard o) ≡ true → take (length (payloadOf p)) (drop (placeOf (chosenBuffer Out (recordAt core i))) (o .lent .memory)) ≡ payloadOf p
     stands-here a = pick (decEq (lendRefusal core (lent .memory) (lent .reply)) 0)
