@@ -148,36 +148,21 @@ module _ (core : Core) (memory reply p : List ℕ) where
           let k = packet-keeps core memory reply p h in
           (ap length (k .1), ap length (k .2))
 
-memory-length : (core : Core) (lent : Lent) (call : Call) → length (theCore core lent call .lent .memory) ≡ length (lent .memory)
-memory-length core lent (Start M speed) = refl
-memory-length core lent (Configure i condition e) = refl
-memory-length core lent (Arm i buffer base length) = refl
-memory-length core lent (Disarm i buffer) = refl
-memory-length core lent (SetHalt i) = refl
-memory-length core lent (ClearHalt i) = refl
-memory-length core lent (SetAddress address) = refl
-memory-length core lent (BusReset speed) = refl
-memory-length core lent (RecordEvents i) = refl
-memory-length core lent SystemEvents = refl
-memory-length core lent (Packet p) = lengths core (lent .memory) (lent .reply) p .0
-memory-length core lent Timeout = refl
-
-reply-length : (core : Core) (lent : Lent) (call : Call) → length (theCore core lent call .lent .reply) ≡ length (lent .reply)
-reply-length core lent (Start M speed) = refl
-reply-length core lent (Configure i condition e) = refl
-reply-length core lent (Arm i buffer base length) = refl
-reply-length core lent (Disarm i buffer) = refl
-reply-length core lent (SetHalt i) = refl
-reply-length core lent (ClearHalt i) = refl
-reply-length core lent (SetAddress address) = refl
-reply-length core lent (BusReset speed) = refl
-reply-length core lent (RecordEvents i) = refl
-reply-length core lent SystemEvents = refl
-reply-length core lent (Packet p) = lengths core (lent .memory) (lent .reply) p .1
-reply-length core lent Timeout = refl
+same-lengths : (core : Core) (lent : Lent) (call : Call) → (length (theCore core lent call .lent .memory) ≡ length (lent .memory)) × (length (theCore core lent call .lent .reply) ≡ length (lent .reply))
+same-lengths core lent (Start M speed) = (refl, refl)
+same-lengths core lent (Configure i condition e) = (refl, refl)
+same-lengths core lent (Arm i buffer base length) = (refl, refl)
+same-lengths core lent (Disarm i buffer) = (refl, refl)
+same-lengths core lent (SetHalt i) = (refl, refl)
+same-lengths core lent (ClearHalt i) = (refl, refl)
+same-lengths core lent (SetAddress address) = (refl, refl)
+same-lengths core lent (BusReset speed) = (refl, refl)
+same-lengths core lent (RecordEvents i) = (refl, refl)
+same-lengths core lent SystemEvents = (refl, refl)
+same-lengths core lent (Packet p) = lengths core (lent .memory) (lent .reply) p
+same-lengths core lent Timeout = (refl, refl)
 
 -- ---- the whole
 
 pub demand1 : Demand1 theCore
-demand1 =
-    record { stays-sound = run-sound; judges = judges; refused-keeps = refused-keeps; memory-length = memory-length; reply-length = reply-length }
+demand1 = record { stays-sound = run-sound; judges = judges; refused-keeps = refused-keeps; same-lengths = same-lengths }

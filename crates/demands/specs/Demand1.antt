@@ -43,5 +43,4 @@ pub record Demand1 (B : Behaviour) : Type 0 where
   pub judges : (core : Core) (lent : Lent) (call : Call) → refusal (B core lent call .answer) ≡ firstOf (testsOf core lent call) 0
   pub refused-keeps : (core : Core) (lent : Lent) (call : Call) → (refusal (B core lent call .answer) ≡ 0 → ⊥) → (B core lent call .core ≡ asItStood core call) × (B core lent call .lent ≡ lent)
   -- its memory: as many bytes as were lent
-  pub memory-length : (core : Core) (lent : Lent) (call : Call) → length (B core lent call .lent .memory) ≡ length (lent .memory)
-  pub reply-length : (core : Core) (lent : Lent) (call : Call) → length (B core lent call .lent .reply) ≡ length (lent .reply)
+  pub same-lengths : (core : Core) (lent : Lent) (call : Call) → (length (B core lent call .lent .memory) ≡ length (lent .memory)) × (length (B core lent call .lent .reply) ≡ length (lent .reply))
