@@ -1,17 +1,18 @@
 -- Under one contract no function has two outcomes, the lent record with them: what each contract says is one equation. Assumes nothing.
 use Prim.Native.Nat.{ℕ}
-use mathlib.Core.Path.{_≡_, sym, ap, _∙_}
+use mathlib.Core.Path.{_≡_, ap}
+use Rattle.laws.proofs.Once.{Once, once}
 use Rattle.frame.specs.declared.Frame.{Frame}
 use Rattle.frame.specs.declared.Answer.{Answer}
 use Rattle.frame.specs.declared.Outcome.{Outcome}
 use Rattle.frame.specs.Frames.{outcome, empty, countedOf}
 
-pub empty-once : (f f′ : Frame) → f ≡ empty → f′ ≡ empty → f ≡ f′
-empty-once f f′ e e′ = e ∙ sym e′
+pub empty-once : Once empty
+empty-once = once _
 
 module _ (before : Frame) (number : ℕ) where
-  pub counted-once : (o o′ : Outcome) → o ≡ countedOf before number → o′ ≡ countedOf before number → o ≡ o′
-  counted-once o o′ e e′ = e ∙ sym e′
+  pub counted-once : Once (countedOf before number)
+  counted-once = once _
 
   module _ (after : Frame) (answer : Answer) (e : outcome after answer ≡ countedOf before number) where
     -- the frame record where it stands, and the answer, are those of the function by value

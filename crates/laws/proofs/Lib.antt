@@ -3,6 +3,7 @@ pub mod Bools
 pub mod Filling
 pub mod First
 pub mod Lists
+pub mod Once
 pub mod Pairs
 pub mod Parts
 pub mod Table

@@ -7,3 +7,4 @@ pub mod Parting
 pub mod Shortening
 pub mod Splitting
 pub mod Standing
+pub mod Unique

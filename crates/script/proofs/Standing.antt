@@ -85,7 +85,7 @@ module _ (line : List ℕ) (intake : Intake) (kept buffer : List ℕ) (h : Stand
 
 -- ---- what is asked of it
 
-short-none : length (shortOf []) ≡ 0
+pub short-none : length (shortOf []) ≡ 0
 unfolding wordsOf
 short-none = ap length shortened-none
 

@@ -4,5 +4,6 @@ pub mod Pids
 pub mod Reading
 pub mod Register
 pub mod RoundTrip
+pub mod Unique
 pub mod Wide
 pub mod Writing
