@@ -16,6 +16,7 @@ pub mod Lent
 pub mod Alone
 pub mod Stretches
 pub mod Refusals
+pub mod Unique
 pub mod Errors
 pub mod Handshakes
 pub mod Sending

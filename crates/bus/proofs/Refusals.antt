@@ -1,5 +1,5 @@
--- Each refusal of a bus call is given exactly when its row holds and no earlier one does; a refused call keeps the state and every lent byte; one
--- contract has one outcome; and a call takes a sound state to a sound state. Assumes nothing.
+-- Each refusal of a bus call is given exactly when its row holds and no earlier one does; a refused call keeps the state and every lent byte; and a
+-- call takes a sound state to a sound state. Assumes nothing.
 use Prim.Native.Nat.{ℕ}
 use mathlib.Core.Path.{_≡_, refl, sym, _∙_}
 use mathlib.Core.Bool.{Bool, true, false, cond}
@@ -18,7 +18,7 @@ use Rattle.bus.specs.declared.turn.Says.{Says}
 use Rattle.bus.specs.declared.turn.Says.the-variants.{Silence, Ack, Nak, Stall, Nyet, Data, Frame}
 use Rattle.bus.specs.Answers.{refusal, replied, isSof, frameNumber, answerOf}
 use Rattle.bus.specs.Arrival.{packetStep, timedOut}
-use Rattle.bus.specs.Calls.{lendTests, lendRefusal, refused, kept, carried, packetOf, Leaves, timeoutOf}
+use Rattle.bus.specs.Calls.{lendTests, lendRefusal, refused, kept, carried, packetOf, timeoutOf}
 use Rattle.bus.proofs.KeepsSound.{packet-step-sound, timeout-sound}
 
 -- ---- exactly when
@@ -95,15 +95,6 @@ module _ (core : Core) (memory reply : List ℕ) where
       pick : (b : Bool) → eqb (lendRefusal core memory reply) 0 ≡ b → Unanswered (cond b (record { core = timedOut core; answer = Silent }) (refused (lendRefusal core memory reply) core))
       pick true e = absurd (h (eqb-true (lendRefusal core memory reply) 0 e))
       pick false e = unanswered (lendRefusal core memory reply)
-
-  -- ---- one contract, one outcome
-
-  pub packet-once : (p : List ℕ) (o o′ : Outcome) (m m′ r r′ : List ℕ) → Leaves (packetOf core memory reply p) o m r → Leaves (packetOf core memory reply p) o′ m′ r′ → (o ≡ o′) × (m ≡ m′) × (r ≡ r′)
-  packet-once p o o′ m m′ r r′ a b =
-      (a .outcome-given ∙ sym (b .outcome-given), a .memory-left ∙ sym (b .memory-left), a .reply-left ∙ sym (b .reply-left))
-
-  pub timeout-once : (o o′ : Outcome) → o ≡ timeoutOf core memory reply → o′ ≡ timeoutOf core memory reply → o ≡ o′
-  timeout-once o o′ a b = a ∙ sym b
 
   -- ---- a sound state stays sound
 

@@ -1,0 +1,24 @@
+-- Under one contract no function has two outcomes, what it laid down with them. One law, and a line for each function whose contract says its result.
+-- Assumes nothing.
+use Prim.Native.Nat.{ℕ}
+use mathlib.Core.List.{List}
+use lib.ListN.{length}
+use Rattle.laws.proofs.Once.{Once, once}
+use Rattle.wire.specs.Crc.{crc16}
+use Rattle.wire.specs.Data.{verdictOf, verdictNumber, payloadOf, writeOf, written, refusal, bufferAfter}
+use Rattle.wire.specs.Token.{tokenOf}
+use Rattle.exported.specs.Numbers.{tokenNumber}
+
+pub hnitbrek-crc16-once : (payload : List ℕ) → Once (crc16 payload)
+hnitbrek-crc16-once payload = once _
+
+-- the length, and the verdict
+pub hnitbrek-read-once : (packet : List ℕ) → Once (length (payloadOf packet)) × Once (verdictNumber (verdictOf packet))
+hnitbrek-read-once packet = (once _, once _)
+
+-- the length, the refusal, and the buffer
+pub hnitbrek-write-once : (pid : ℕ) (payload buffer : List ℕ) → Once (written (writeOf pid payload buffer)) × Once (refusal (writeOf pid payload buffer)) × Once (bufferAfter pid payload buffer)
+hnitbrek-write-once pid payload buffer = (once _, once _, once _)
+
+pub hnitbrek-token-once : (packet : List ℕ) → Once (tokenNumber (tokenOf packet))
+hnitbrek-token-once packet = once _
