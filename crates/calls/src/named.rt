@@ -6,6 +6,8 @@ use state::Speed;
 use state::SystemEvents;
 use state::Transfer;
 use state::events;
+ghost use mathlib.Core.Path.{_≡_};
+ghost use Rattle.calls.specs.Named.{weighs, recordEventsOf, systemEventsOf};
 
 pub enum SpeedWord {
     Speed(Speed),
@@ -80,14 +82,18 @@ pub fn as_bit(word: &[u8]) -> Bit {
 }
 
 // Whether the number has the bit of this weight.
-fn has(n: u32, weight: u32) -> bool {
+fn has(n: u32, weight: u32) -> bool
+    ensures { λ b. ⌜ b ≡ weighs n weight ⌝ }
+{
     if weight == 0 {
         return false;
     }
     n / weight % 2 == 1
 }
 
-pub fn record_events(n: u32) -> RecordEvents {
+pub fn record_events(n: u32) -> RecordEvents
+    ensures { λ e. ⌜ e ≡ recordEventsOf n ⌝ }
+{
     RecordEvents {
         wait_ended: has(n, 1),
         not_good: has(n, 2),
@@ -99,7 +105,9 @@ pub fn record_events(n: u32) -> RecordEvents {
     }
 }
 
-pub fn system_events(n: u32) -> SystemEvents {
+pub fn system_events(n: u32) -> SystemEvents
+    ensures { λ e. ⌜ e ≡ systemEventsOf n ⌝ }
+{
     SystemEvents {
         bad_token: has(n, 1048576),
         bad_pid: has(n, 2097152),
