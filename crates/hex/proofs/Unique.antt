@@ -1,9 +1,9 @@
 -- Under one contract no function has two outcomes, the lent text with them. What `read` leaves stands for a text, and two such states are answered alike;
 -- the bytes behind those kept, and which state stands for a line that is not good, its contract leaves open. Assumes nothing.
-use Prim.Native.Nat.{ℕ, zero, suc, _+_, _*_, _<_}
+use Prim.Native.Nat.{ℕ, zero, suc, _+_, _*_, _%_, _<_}
 use native.Mathlib.Omega.{arith}
 use mathlib.Core.Path.{_≡_, refl, sym, ap, _∙_}
-use mathlib.Core.Bool.{Bool, true, cond, true≢false}
+use mathlib.Core.Bool.{Bool, true, cond, and-false, true≢false}
 use mathlib.Core.List.{List, [], _∷_, _++_}
 use lib.Dec.{eqb, ltb}
 use lib.ListN.{length, take, drop, replicate, length-append, length-replicate}
@@ -88,3 +88,20 @@ is-empty-once line = let s = standing line in is-empty-alike (s .0) line line (s
 -- of a state that stands for a text
 pub kept-once : (taken : List ℕ) (line : Line) (buffer : List ℕ) → Stands taken line buffer → (r r′ : List ℕ) → ((t : List ℕ) → Stands t line buffer → r ≡ cond (isGood t) (keptOf buffer t) []) → ((t : List ℕ) → Stands t line buffer → r′ ≡ cond (isGood t) (keptOf buffer t) []) → r ≡ r′
 kept-once taken line buffer h = kept-alike taken line line buffer buffer h h refl
+
+-- ---- what the contracts leave open
+
+-- the bytes behind those kept: whatever they are, the state stands for the text
+pub bytes-open : (buffer : List ℕ) → Stands [] (Pairs 0) buffer
+unfolding isGood bytesOf
+bytes-open [] = record { good = refl; count = refl; bytes = refl }
+bytes-open (b ∷ buffer) = record { good = refl; count = refl; bytes = refl }
+
+-- which state stands for a line that is not good
+pub state-open : Stands (103 ∷ []) (Half 0 103) [] × Stands (103 ∷ []) Bad []
+unfolding isGood isDigit
+state-open = (([], refl, bytes-open []), λ more. and-false (eqb (length (103 ∷ more) % 2) 0))
+
+-- a state that stands for no text
+pub kept-open : (taken : List ℕ) → Stands taken (Pairs 1) [] → ⊥
+kept-open taken h = omega (arith, h .count)

@@ -95,3 +95,7 @@ module _ (taken : List ℕ) (intake intake′ : Intake) (kept kept′ buffer buf
 
   pub bytes-once : length buffer ≡ length buffer′ → (r r′ : List ℕ) → ((t k : List ℕ) → Stands t intake k buffer → r ≡ cond (isGood (lastOf (wordsOf t))) (bytesKept buffer (lastOf (wordsOf t))) []) → ((t k : List ℕ) → Stands t intake′ k buffer′ → r′ ≡ cond (isGood (lastOf (wordsOf t))) (bytesKept buffer′ (lastOf (wordsOf t))) []) → r ≡ r′
   bytes-once e r r′ a b = a taken kept h ∙ ap (λ (n : ℕ). cond (isGood (lastOf (wordsOf taken))) (take n (bytesOf (lastOf (wordsOf taken)))) []) e ∙ sym (b taken kept′ h′)
+
+-- a state that stands for no line
+pub intake-open : (taken : List ℕ) (intake : Intake) (kept buffer : List ℕ) → intake .start ≡ 137 → Stands taken intake kept buffer → ⊥
+intake-open taken intake kept buffer e h = omega (arith, e, h .start)
