@@ -8,6 +8,7 @@ use Rattle.wire.specs.Crc.{crc16}
 use Rattle.wire.specs.Data.{verdictOf, verdictNumber, payloadOf, writeOf, written, refusal, bufferAfter}
 use Rattle.wire.specs.Token.{tokenOf}
 use Rattle.exported.specs.Numbers.{tokenNumber}
+use Rattle.exported.specs.Scene.{setUp, soundOf}
 
 pub hnitbrek-crc16-once : (payload : List ℕ) → Once (crc16 payload)
 hnitbrek-crc16-once payload = once _
@@ -22,3 +23,6 @@ hnitbrek-write-once pid payload buffer = (once _, once _, once _)
 
 pub hnitbrek-token-once : (packet : List ℕ) → Once (tokenNumber (tokenOf packet))
 hnitbrek-token-once packet = once _
+
+pub hnitbrek-sound-once : (maximum times : ℕ) → Once (soundOf (setUp maximum) times)
+hnitbrek-sound-once maximum times = once _

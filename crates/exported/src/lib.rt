@@ -17,6 +17,7 @@ ghost use Rattle.wire.specs.Crc.{crc16};
 ghost use Rattle.wire.specs.Data.{verdictOf, verdictNumber, payloadOf, writeOf, written, refusal, bufferAfter};
 ghost use Rattle.wire.specs.Token.{tokenOf};
 ghost use Rattle.exported.specs.Numbers.{tokenNumber};
+ghost use Rattle.exported.specs.Scene.{setUp, yesOf, soundOf};
 
 // The check of a payload.
 #[no_mangle]
@@ -73,7 +74,8 @@ pub extern "C" fn hnitbrek_token(packet: &[u8]) -> u32
 
 // 1 where the state is sound.
 fn yes(core: Core) -> u32
-    ensures { λ n. ⌜ n ≤ 1 ⌝ }
+    ensures { λ n. ⌜ n ≡ yesOf core ⌝ }
+    ensures most { λ n. ⌜ n ≤ 1 ⌝ }
 {
     if sound::is_sound(core) { 1 } else { 0 }
 }
@@ -81,7 +83,8 @@ fn yes(core: Core) -> u32
 // How often the sound test says yes; the address differs each time, so that no test can be left out.
 #[no_mangle]
 pub extern "C" fn hnitbrek_sound(maximum: u32, times: u32) -> u32
-    ensures { λ n. ⌜ n ≤ times ⌝ }
+    ensures { λ n. ⌜ n ≡ soundOf (setUp maximum) times ⌝ }
+    ensures most { λ n. ⌜ n ≤ times ⌝ }
 {
     let mut core = scene::set_up(maximum);
     let mut sound = 0u32;
