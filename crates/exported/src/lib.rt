@@ -18,6 +18,7 @@ ghost use Rattle.wire.specs.Data.{verdictOf, verdictNumber, payloadOf, writeOf,
 ghost use Rattle.wire.specs.Token.{tokenOf};
 ghost use Rattle.exported.specs.Numbers.{tokenNumber};
 ghost use Rattle.exported.specs.Scene.{setUp, yesOf, soundOf};
+ghost use Rattle.exported.specs.Traffic.{playedTimes, waited, unanswered};
 
 // The check of a payload.
 #[no_mangle]
@@ -105,7 +106,11 @@ pub extern "C" fn hnitbrek_play(
     times: u32,
     memory: &mut [u8],
     reply: &mut [u8],
-) -> u64 {
+) -> u64
+    ensures { λ n. ⌜ n ≡ playedTimes maximum (now (list .entry)) times (unanswered (setUp maximum) (now (memory .entry)) (now (reply .entry))) .sum ⌝ }
+    ensures stored { λ _. ⌜ now (memory .exit) ≡ playedTimes maximum (now (list .entry)) times (unanswered (setUp maximum) (now (memory .entry)) (now (reply .entry))) .memory ⌝ }
+    ensures laid { λ _. ⌜ now (reply .exit) ≡ playedTimes maximum (now (list .entry)) times (unanswered (setUp maximum) (now (memory .entry)) (now (reply .entry))) .reply ⌝ }
+{
     let played = traffic::passes(scene::set_up(maximum), maximum, list, times, memory, reply);
     played.sum
 }
@@ -118,7 +123,11 @@ pub extern "C" fn hnitbrek_time_out(
     times: u32,
     memory: &mut [u8],
     reply: &mut [u8],
-) -> u64 {
+) -> u64
+    ensures { λ n. ⌜ n ≡ waited (now (packet .entry)) times (unanswered (setUp maximum) (now (memory .entry)) (now (reply .entry))) .sum ⌝ }
+    ensures stored { λ _. ⌜ now (memory .exit) ≡ waited (now (packet .entry)) times (unanswered (setUp maximum) (now (memory .entry)) (now (reply .entry))) .memory ⌝ }
+    ensures laid { λ _. ⌜ now (reply .exit) ≡ waited (now (packet .entry)) times (unanswered (setUp maximum) (now (memory .entry)) (now (reply .entry))) .reply ⌝ }
+{
     let played = traffic::waits(scene::set_up(maximum), packet, times, memory, reply);
     played.sum
 }
