@@ -15,7 +15,7 @@ take-least n list = pick (decLe n (length list))
     pick (yes h) = let least : min n (length list) ≡ n = omega arith in rw least
     pick (no h) = let least : min n (length list) ≡ length list = omega arith in rw least (take-all (length list) list (omega arith) ∙ sym (take-all n list (omega arith)))
 
-pub cut : (list : List ℕ) (at : ℕ) → at + 2 ≤ length list → take (min (getD list at 0 + getD list (at + 1) 0 * 256) (length list - (at + 2))) (drop (at + 2) list) ≡ firstIn (drop at list)
+cut : (list : List ℕ) (at : ℕ) → at + 2 ≤ length list → take (min (getD list at 0 + getD list (at + 1) 0 * 256) (length list - (at + 2))) (drop (at + 2) list) ≡ firstIn (drop at list)
 unfolding firstIn
 cut list at h =
     let low : getD (drop at list) 0 0 ≡ getD list at 0 = getD-drop at list 0 0 ∙ ap (λ (i : ℕ). getD list i 0) (omega arith) in
