@@ -1,5 +1,4 @@
 pub mod Ends
-pub mod Examples
 pub mod Kept
 pub mod Sharing
 pub mod Survey
