@@ -28,6 +28,7 @@ pub mod Configured
 pub mod Computing
 pub mod Port
 pub mod Trace
+pub mod Speeds
 pub mod Needed
 pub mod Refuted
 pub mod Examples

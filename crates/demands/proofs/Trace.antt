@@ -107,9 +107,9 @@ fair =
     ((tt, tt), ((tt, tt), ((refl, (refl, refl)), ((tt, tt), ((tt, refl), ((refl, tt), ((tt, tt), ((tt, tt), ((refl, refl), ((tt, tt), (tt, ((tt, tt), tt))))))))))))
 
 -- what is heard behind each of its happenings
-abbrev answers : World → List Happening → List (List ℕ)
-answers w [] = []
-answers w (h ∷ hs) = heard (outcome theCore host w h) ∷ answers (next theCore host w h) hs
+abbrev pub answers : Setting → World → List Happening → List (List ℕ)
+answers s w [] = []
+answers s w (h ∷ hs) = heard (outcome theCore s w h) ∷ answers s (next theCore s w h) hs
 
 -- nothing, and ACK, which the host does not hear; nothing; data, and nothing; ACK for the repeat; nothing for what is damaged, lost or late; ACK;
 -- nothing for the SOF; NAK; nothing for the arming; ACK
@@ -124,7 +124,7 @@ record Computed : Type 0 where
   proper-there : areProper theCore host (begin port) (trace closed episodes) ≡ true
   acknowledged-there : eqb (end .acknowledged) 3 ≡ true
   stored-there : samePackets (end .stored) (host .payloads) ≡ true
-  answered-there : samePackets (answers (begin port) (trace closed episodes)) heard-there ≡ true
+  answered-there : samePackets (answers host (begin port) (trace closed episodes)) heard-there ≡ true
 
 computed : Computed
 unfolding outToken heard storedBy settled recordEventsOf recordBits armOf sharesByte packetOf timeoutOf packetStep fulfilled timedOut missed dataStep isDataFirst isAck noWait meeting foundIn servedBy onIn sending afterOut taking taken marked acceptance filled usedUp acknowledged active chosen isSound recordFits liveFits isZero beside shareByte endpointFits misplaced markFits tokenOf pidOf kindOf pidByte verdictOf payloadOf stretch rightCheck checkSent packet step after bits sent check
@@ -137,12 +137,12 @@ proper-trace = all-proper theCore host (begin port) (trace closed episodes) (com
 pub record Ends : Type 0 where
   pub all-acknowledged : end .acknowledged ≡ 3
   pub all-stored : end .stored ≡ host .payloads
-  pub answered : answers (begin port) (trace closed episodes) ≡ heard-there
+  pub answered : answers host (begin port) (trace closed episodes) ≡ heard-there
 
 pub ends : Ends
 ends =
     record {
       all-acknowledged = eqb-true (end .acknowledged) 3 (computed .acknowledged-there);
       all-stored = same-packets (end .stored) (host .payloads) (computed .stored-there);
-      answered = same-packets (answers (begin port) (trace closed episodes)) heard-there (computed .answered-there);
+      answered = same-packets (answers host (begin port) (trace closed episodes)) heard-there (computed .answered-there);
     }
