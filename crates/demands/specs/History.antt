@@ -1,4 +1,4 @@
--- "done is the length of the payloads stored since arming", read off the calls and their answers. No done count is looked at.
+-- "done is the length of the payloads stored since arming", read off the calls, their answers, and what the core awaited. No done count is looked at.
 use Prim.Native.Nat.{ℕ, _+_}
 use mathlib.Core.Path.{_≡_}
 use mathlib.Core.Bool.{Bool, true, false, _&&_, cond, Bool·beq}
