@@ -1,15 +1,18 @@
 -- Demand 1, of any behaviour: "No packet and no firmware call may take the core outside its memory or its rules. Each entry judges its
 -- own arguments. A refused call gives its number from the table and leaves the core's records, the buffer memory and the reply buffer as
 -- they stood."
-use Prim.Native.Nat.{ℕ}
+use Prim.Native.Nat.{ℕ, _+_}
 use mathlib.Core.Path.{_≡_}
-use mathlib.Core.Bool.{Bool, cond}
+use mathlib.Core.Bool.{Bool, false, _&&_, cond}
 use mathlib.Core.List.{List, []}
-use lib.ListN.{length}
+use lib.Dec.{leb, ltb}
+use lib.ListN.{length, getD}
 use Rattle.laws.specs.Lists.{firstOf}
 use Rattle.state.specs.declared.Speed.the-variants.{Full}
+use Rattle.state.specs.declared.Descriptor.{Descriptor}
+use Rattle.state.specs.declared.Descriptor.the-variants.{Unallocated, Armed}
 use Rattle.state.specs.declared.Core.{Core}
-use Rattle.state.specs.Update.{started}
+use Rattle.state.specs.Update.{bufferOf, started, recordAt}
 use Rattle.state.specs.Sound.{Sound}
 use Rattle.firmware.specs.Device.{startTests, addressTests, soundTests}
 use Rattle.firmware.specs.Records.{indexTests, configureTests, haltTests}
@@ -36,6 +39,15 @@ testsOf core lent Timeout = lendTests core (length (lent .memory)) (length (lent
 abbrev pub asItStood : Core → Call → Core
 asItStood core call = cond (isAnew (sideOf call)) (started 0 Full) core
 
+-- a place of the memory is in the span of an armed buffer
+abbrev pub inSpan : ℕ → Descriptor → Bool
+inSpan place Unallocated = false
+inSpan place (Armed base length done used) = leb base place && ltb place (base + length)
+
+-- or in none
+abbrev pub Unarmed : Core → ℕ → Type 0
+Unarmed core place = (i : ℕ) (second : Bool) → inSpan place (bufferOf (recordAt core i) second) ≡ false
+
 pub record Demand1 (B : Behaviour) : Type 0 where
   -- its rules: every run from a start is in a sound state
   pub stays-sound : (s : Beginning) (gs : List Given) → Sound (runFrom B s gs)
@@ -44,3 +56,5 @@ pub record Demand1 (B : Behaviour) : Type 0 where
   pub refused-keeps : (core : Core) (lent : Lent) (call : Call) → (refusal (B core lent call .answer) ≡ 0 → ⊥) → (B core lent call .core ≡ asItStood core call) × (B core lent call .lent ≡ lent)
   -- its memory: as many bytes as were lent
   pub same-lengths : (core : Core) (lent : Lent) (call : Call) → (length (B core lent call .lent .memory) ≡ length (lent .memory)) × (length (B core lent call .lent .reply) ≡ length (lent .reply))
+  -- and of them only bytes of armed buffers change
+  pub rest-kept : (core : Core) (lent : Lent) (call : Call) (place : ℕ) → Unarmed core place → getD (B core lent call .lent .memory) place 0 ≡ getD (lent .memory) place 0
