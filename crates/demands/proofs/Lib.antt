@@ -1,4 +1,5 @@
 pub mod Leaving
+pub mod Untouched
 pub mod Rules
 pub mod BusCalls
 pub mod DemandTwo

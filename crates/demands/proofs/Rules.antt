@@ -35,6 +35,7 @@ use Rattle.bus.proofs.Refusals as bus-refusals
 use Rattle.bus.proofs.Refusals.{packet-judges, timeout-judges, packet-keeps, timeout-keeps, packet-sound, timeout-call-sound}
 use Rattle.demands.specs.Behaviour.{Lent, Call, Start, Configure, Arm, Disarm, SetHalt, ClearHalt, SetAddress, BusReset, RecordEvents, SystemEvents, Packet, Timeout, refusal, theCore, Given, run, Beginning, runFrom}
 use Rattle.demands.specs.Demand1.{testsOf, asItStood, Demand1}
+use Rattle.demands.proofs.Untouched.{rest-kept}
 
 -- ---- its rules
 
@@ -165,4 +166,4 @@ same-lengths core lent Timeout = (refl, refl)
 -- ---- the whole
 
 pub demand1 : Demand1 theCore
-demand1 = record { stays-sound = run-sound; judges = judges; refused-keeps = refused-keeps; same-lengths = same-lengths }
+demand1 = record { stays-sound = run-sound; judges = judges; refused-keeps = refused-keeps; same-lengths = same-lengths; rest-kept = rest-kept }
