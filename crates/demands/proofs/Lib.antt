@@ -24,6 +24,7 @@ pub mod Storing
 pub mod OurData
 pub mod Invariant
 pub mod DemandThree
+pub mod NoFalseAck
 pub mod InWords
 pub mod Configured
 pub mod Computing

@@ -1,5 +1,5 @@
 -- Demand 3, of any behaviour: its hypotheses, each with the demand's words, and its claim.
-use Prim.Native.Nat.{ℕ, suc, _<_}
+use Prim.Native.Nat.{ℕ, suc, _<_, _≤_}
 use mathlib.Core.Path.{_≡_}
 use mathlib.Core.Logic.{_⊎_}
 use mathlib.Core.Bool.{Bool, true, false, not, _&&_, _||_}
@@ -117,3 +117,10 @@ pub record Kept (B : Behaviour) (s : Setting) (w : World) : Type 0 where
 abbrev pub Demand3 : Behaviour → Type 0
 Demand3 B =
     (s : Setting) (core : Core) (hs : List Happening) → Fresh s core → AllAllowed B s (begin core) hs → (n : ℕ) → Kept B s (after B s (begin core) (take n hs))
+
+-- ---- the sentence that the project is for
+
+-- "It acknowledged what it had not stored, and no rule in it said it could not": whatever the host holds acknowledged is stored, in its place of the list
+pub record NoFalseAck (s : Setting) (w : World) : Type 0 where
+  pub as-many : w .acknowledged ≤ length (w .stored)
+  pub the-same : take (w .acknowledged) (w .stored) ≡ take (w .acknowledged) (s .payloads)
