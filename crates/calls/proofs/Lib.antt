@@ -1,1 +1,3 @@
+pub mod Choosing
+pub mod Examples
 pub mod Unique

@@ -1,1 +1,3 @@
+pub mod Forms
 pub mod Named
+pub mod Script

@@ -1,224 +1,258 @@
 // The lines that set a field with no judgement.
+use crate::argument;
+use crate::argument::Bit;
+use crate::argument::ConditionWord;
+use crate::argument::KindWord;
+use crate::argument::TransferWord;
 use crate::line::Field;
 use crate::line::Forced;
 use crate::line::Line;
 use crate::named;
-use crate::named::Bit;
-use crate::named::ConditionWord;
-use crate::named::KindWord;
-use crate::named::TransferWord;
 use frame::Frame;
 use script::Number;
 use state::Descriptor;
 use state::Stage;
 use state::Wait;
+ghost use mathlib.Core.Path.{_≡_};
+ghost use Rattle.script.specs.Words.{wordsOf};
+ghost use Rattle.calls.specs.Script.{forceMemory, forceAddress, forceEvents, forceWaitData, forceWaitAck, forceWait, conditionField, kindField, typeField, numberField, maxField, nextField, eventsField, outField, inField, forceRecord, armedForm, forceBuffer, forceFrame, forceForm};
 
-// A field and its value, where the line says one.
-enum Given {
-    Field(Field),
-    Nothing,
+fn memory(line: &[u8]) -> Line
+    ensures { λ r. ⌜ r ≡ forceMemory 2 (wordsOf (now (line .entry))) ⌝ }
+{
+    let Number::Value(n) = argument::number(line, 2) else {
+        return Line::Bad;
+    };
+    argument::whole(line, 3, Line::Force(Forced::Memory(n)))
 }
 
-// The number that stands at this place, where it is at most this.
-fn at_most(line: &[u8], index: usize, most: u32) -> Number {
-    match script::as_number(script::word(line, index)) {
-        Number::Value(n) => {
-            if most < n {
-                return Number::Other;
-            }
-            Number::Value(n)
-        }
-        Number::Other => Number::Other,
-    }
+fn address(line: &[u8]) -> Line
+    ensures { λ r. ⌜ r ≡ forceAddress 2 (wordsOf (now (line .entry))) ⌝ }
+{
+    let Number::Value(n) = argument::at_most(line, 2, 255) else {
+        return Line::Bad;
+    };
+    argument::whole(line, 3, Line::Force(Forced::Address(n)))
 }
 
-fn memory(line: &[u8]) -> Line {
-    match script::as_number(script::word(line, 2)) {
-        Number::Value(n) => Line::Force(Forced::Memory(n)),
-        Number::Other => Line::Bad,
-    }
-}
-
-fn address(line: &[u8]) -> Line {
-    match at_most(line, 2, 255) {
-        Number::Value(n) => Line::Force(Forced::Address(n)),
-        Number::Other => Line::Bad,
-    }
-}
-
-fn events(line: &[u8]) -> Line {
-    let Number::Value(n) = script::as_number(script::word(line, 2)) else {
+fn events(line: &[u8]) -> Line
+    ensures { λ r. ⌜ r ≡ forceEvents 2 (wordsOf (now (line .entry))) ⌝ }
+{
+    let Number::Value(n) = argument::number(line, 2) else {
         return Line::Bad;
     };
     if named::is_system_events(n) {
-        return Line::Force(Forced::Events(n));
+        return argument::whole(line, 3, Line::Force(Forced::Events(n)));
     }
     Line::Bad
 }
 
-fn wait_nothing(what: usize) -> Line {
-    if what == 0 {
-        return Line::Force(Forced::Wait(Wait::Nothing));
-    }
-    Line::Bad
-}
-
-fn wait_data(what: usize, line: &[u8]) -> Line {
-    if what != 1 {
-        return Line::Bad;
-    }
-    let Number::Value(index) = at_most(line, 3, 255) else {
+fn wait_data(line: &[u8]) -> Line
+    ensures { λ r. ⌜ r ≡ forceWaitData 3 (wordsOf (now (line .entry))) ⌝ }
+{
+    let Number::Value(index) = argument::at_most(line, 3, 255) else {
         return Line::Bad;
     };
     let record = index as usize;
     match script::place(script::word(line, 4), b"setup out") {
-        0 => Line::Force(Forced::Wait(Wait::Data {
-            record,
-            stage: Stage::Setup,
-        })),
-        1 => Line::Force(Forced::Wait(Wait::Data {
-            record,
-            stage: Stage::Out,
-        })),
+        0 => argument::whole(
+            line,
+            5,
+            Line::Force(Forced::Wait(Wait::Data {
+                record,
+                stage: Stage::Setup,
+            })),
+        ),
+        1 => argument::whole(
+            line,
+            5,
+            Line::Force(Forced::Wait(Wait::Data {
+                record,
+                stage: Stage::Out,
+            })),
+        ),
         _ => Line::Bad,
     }
 }
 
-fn wait_acknowledge(what: usize, line: &[u8]) -> Line {
-    if what != 2 {
-        return Line::Bad;
-    }
-    let Number::Value(index) = at_most(line, 3, 255) else {
-        return Line::Bad;
-    };
-    let Bit::Value(buffer) = named::as_bit(script::word(line, 4)) else {
+fn wait_acknowledge(line: &[u8]) -> Line
+    ensures { λ r. ⌜ r ≡ forceWaitAck 3 (wordsOf (now (line .entry))) ⌝ }
+{
+    let Number::Value(index) = argument::at_most(line, 3, 255) else {
         return Line::Bad;
     };
-    let Number::Value(length) = script::as_number(script::word(line, 5)) else {
+    let Bit::Value(buffer) = argument::as_bit(line, 4) else {
+        return Line::Bad;
+    };
+    let Number::Value(length) = argument::number(line, 5) else {
         return Line::Bad;
     };
     let record = index as usize;
-    Line::Force(Forced::Wait(Wait::Acknowledge {
+    let wait = Wait::Acknowledge {
         record,
         buffer,
         length,
-    }))
+    };
+    argument::whole(line, 6, Line::Force(Forced::Wait(wait)))
 }
 
-// What is waited for, and how many words say it.
-fn wait(line: &[u8]) -> Line {
-    let what = script::place(script::word(line, 2), b"nothing data ack");
-    match script::count(line) {
-        3 => wait_nothing(what),
-        5 => wait_data(what, line),
-        6 => wait_acknowledge(what, line),
+// The arms in the order of the names.
+fn wait(line: &[u8]) -> Line
+    ensures { λ r. ⌜ r ≡ forceWait 2 (wordsOf (now (line .entry))) ⌝ }
+{
+    match script::place(script::word(line, 2), b"nothing data ack") {
+        0 => argument::whole(line, 3, Line::Force(Forced::Wait(Wait::Nothing))),
+        1 => wait_data(line),
+        2 => wait_acknowledge(line),
         _ => Line::Bad,
     }
 }
 
-fn condition(value: &[u8]) -> Given {
-    match named::condition(value) {
-        ConditionWord::Condition(c) => Given::Field(Field::Condition(c)),
-        ConditionWord::Other => Given::Nothing,
-    }
+fn condition(index: u32, line: &[u8]) -> Line
+    ensures { λ r. ⌜ r ≡ conditionField index 4 (wordsOf (now (line .entry))) ⌝ }
+{
+    let ConditionWord::Condition(c) = argument::condition(line, 4) else {
+        return Line::Bad;
+    };
+    argument::whole(
+        line,
+        5,
+        Line::Force(Forced::Record(index, Field::Condition(c))),
+    )
 }
 
-fn kind(value: &[u8]) -> Given {
-    match named::kind(value) {
-        KindWord::Kind(k) => Given::Field(Field::Kind(k)),
-        KindWord::Other => Given::Nothing,
-    }
+fn kind(index: u32, line: &[u8]) -> Line
+    ensures { λ r. ⌜ r ≡ kindField index 4 (wordsOf (now (line .entry))) ⌝ }
+{
+    let KindWord::Kind(k) = argument::kind(line, 4) else {
+        return Line::Bad;
+    };
+    argument::whole(line, 5, Line::Force(Forced::Record(index, Field::Kind(k))))
 }
 
-fn transfer(value: &[u8]) -> Given {
-    match named::transfer(value) {
-        TransferWord::Transfer(t) => Given::Field(Field::Type(t)),
-        TransferWord::Other => Given::Nothing,
-    }
+fn transfer(index: u32, line: &[u8]) -> Line
+    ensures { λ r. ⌜ r ≡ typeField index 4 (wordsOf (now (line .entry))) ⌝ }
+{
+    let TransferWord::Transfer(t) = argument::transfer(line, 4) else {
+        return Line::Bad;
+    };
+    argument::whole(line, 5, Line::Force(Forced::Record(index, Field::Type(t))))
 }
 
-fn maximum(value: &[u8]) -> Given {
-    match script::as_number(value) {
-        Number::Value(n) => Given::Field(Field::Maximum(n)),
-        Number::Other => Given::Nothing,
-    }
+fn number(index: u32, line: &[u8]) -> Line
+    ensures { λ r. ⌜ r ≡ numberField index 4 (wordsOf (now (line .entry))) ⌝ }
+{
+    let Number::Value(n) = argument::at_most(line, 4, 255) else {
+        return Line::Bad;
+    };
+    argument::whole(
+        line,
+        5,
+        Line::Force(Forced::Record(index, Field::Number(n))),
+    )
 }
 
-fn number(value: &[u8]) -> Given {
-    match at_most(value, 0, 255) {
-        Number::Value(n) => Given::Field(Field::Number(n)),
-        Number::Other => Given::Nothing,
-    }
+fn maximum(index: u32, line: &[u8]) -> Line
+    ensures { λ r. ⌜ r ≡ maxField index 4 (wordsOf (now (line .entry))) ⌝ }
+{
+    let Number::Value(n) = argument::number(line, 4) else {
+        return Line::Bad;
+    };
+    argument::whole(
+        line,
+        5,
+        Line::Force(Forced::Record(index, Field::Maximum(n))),
+    )
 }
 
-fn record_events(value: &[u8]) -> Given {
-    match at_most(value, 0, 127) {
-        Number::Value(n) => Given::Field(Field::Events(n)),
-        Number::Other => Given::Nothing,
-    }
+fn next(index: u32, line: &[u8]) -> Line
+    ensures { λ r. ⌜ r ≡ nextField index 4 (wordsOf (now (line .entry))) ⌝ }
+{
+    let Bit::Value(b) = argument::as_bit(line, 4) else {
+        return Line::Bad;
+    };
+    argument::whole(line, 5, Line::Force(Forced::Record(index, Field::Next(b))))
 }
 
-fn next(value: &[u8]) -> Given {
-    match named::as_bit(value) {
-        Bit::Value(b) => Given::Field(Field::Next(b)),
-        Bit::Other => Given::Nothing,
+fn record_events(index: u32, line: &[u8]) -> Line
+    ensures { λ r. ⌜ r ≡ eventsField index 4 (wordsOf (now (line .entry))) ⌝ }
+{
+    let Number::Value(n) = argument::number(line, 4) else {
+        return Line::Bad;
+    };
+    if named::is_record_events(n) {
+        return argument::whole(
+            line,
+            5,
+            Line::Force(Forced::Record(index, Field::Events(n))),
+        );
     }
+    Line::Bad
 }
 
-fn out_toggle(value: &[u8]) -> Given {
-    match named::as_bit(value) {
-        Bit::Value(b) => Given::Field(Field::OutToggle(b)),
-        Bit::Other => Given::Nothing,
-    }
+fn out_toggle(index: u32, line: &[u8]) -> Line
+    ensures { λ r. ⌜ r ≡ outField index 4 (wordsOf (now (line .entry))) ⌝ }
+{
+    let Bit::Value(b) = argument::as_bit(line, 4) else {
+        return Line::Bad;
+    };
+    argument::whole(
+        line,
+        5,
+        Line::Force(Forced::Record(index, Field::OutToggle(b))),
+    )
 }
 
-fn in_toggle(value: &[u8]) -> Given {
-    match named::as_bit(value) {
-        Bit::Value(b) => Given::Field(Field::InToggle(b)),
-        Bit::Other => Given::Nothing,
-    }
+fn in_toggle(index: u32, line: &[u8]) -> Line
+    ensures { λ r. ⌜ r ≡ inField index 4 (wordsOf (now (line .entry))) ⌝ }
+{
+    let Bit::Value(b) = argument::as_bit(line, 4) else {
+        return Line::Bad;
+    };
+    argument::whole(
+        line,
+        5,
+        Line::Force(Forced::Record(index, Field::InToggle(b))),
+    )
 }
 
 // The arms in the order of the names.
-fn field(name: &[u8], value: &[u8]) -> Given {
-    match script::place(name, b"condition kind type number max next events out in") {
-        0 => condition(value),
-        1 => kind(value),
-        2 => transfer(value),
-        3 => number(value),
-        4 => maximum(value),
-        5 => next(value),
-        6 => record_events(value),
-        7 => out_toggle(value),
-        8 => in_toggle(value),
-        _ => Given::Nothing,
+fn record(line: &[u8]) -> Line
+    ensures { λ r. ⌜ r ≡ forceRecord 2 (wordsOf (now (line .entry))) ⌝ }
+{
+    let Number::Value(index) = argument::at_most(line, 2, 15) else {
+        return Line::Bad;
+    };
+    match script::place(
+        script::word(line, 3),
+        b"condition kind type number max next events out in",
+    ) {
+        0 => condition(index, line),
+        1 => kind(index, line),
+        2 => transfer(index, line),
+        3 => number(index, line),
+        4 => maximum(index, line),
+        5 => next(index, line),
+        6 => record_events(index, line),
+        7 => out_toggle(index, line),
+        8 => in_toggle(index, line),
+        _ => Line::Bad,
     }
 }
 
-fn record(line: &[u8]) -> Line {
-    if script::count(line) != 5 {
-        return Line::Bad;
-    }
-    let Number::Value(index) = at_most(line, 2, 15) else {
-        return Line::Bad;
-    };
-    match field(script::word(line, 3), script::word(line, 4)) {
-        Given::Field(f) => Line::Force(Forced::Record(index, f)),
-        Given::Nothing => Line::Bad,
-    }
-}
-
-fn armed(index: u32, second: bool, line: &[u8]) -> Line {
-    let Number::Value(base) = script::as_number(script::word(line, 4)) else {
+fn armed(index: u32, second: bool, line: &[u8]) -> Line
+    ensures { λ r. ⌜ r ≡ armedForm index second 4 (wordsOf (now (line .entry))) ⌝ }
+{
+    let Number::Value(base) = argument::number(line, 4) else {
         return Line::Bad;
     };
-    let Number::Value(length) = script::as_number(script::word(line, 5)) else {
+    let Number::Value(length) = argument::number(line, 5) else {
         return Line::Bad;
     };
-    let Number::Value(done) = script::as_number(script::word(line, 6)) else {
+    let Number::Value(done) = argument::number(line, 6) else {
         return Line::Bad;
     };
-    let Bit::Value(used) = named::as_bit(script::word(line, 7)) else {
+    let Bit::Value(used) = argument::as_bit(line, 7) else {
         return Line::Bad;
     };
     let d = Descriptor::Armed {
@@ -227,38 +261,39 @@ fn armed(index: u32, second: bool, line: &[u8]) -> Line {
         done,
         used,
     };
-    Line::Force(Forced::Buffer(index, second, d))
+    argument::whole(line, 8, Line::Force(Forced::Buffer(index, second, d)))
 }
 
 // Off, or the four fields.
-fn buffer(line: &[u8]) -> Line {
-    let words = script::count(line);
-    let Number::Value(index) = at_most(line, 2, 15) else {
+fn buffer(line: &[u8]) -> Line
+    ensures { λ r. ⌜ r ≡ forceBuffer 2 (wordsOf (now (line .entry))) ⌝ }
+{
+    let Number::Value(index) = argument::at_most(line, 2, 15) else {
         return Line::Bad;
     };
-    let Bit::Value(second) = named::as_bit(script::word(line, 3)) else {
+    let Bit::Value(second) = argument::as_bit(line, 3) else {
         return Line::Bad;
     };
-    if (words == 5) & script::is(script::word(line, 4), b"off") {
-        return Line::Force(Forced::Buffer(index, second, Descriptor::Unallocated));
+    if script::is(script::word(line, 4), b"off") {
+        return argument::whole(
+            line,
+            5,
+            Line::Force(Forced::Buffer(index, second, Descriptor::Unallocated)),
+        );
     }
-    if words == 8 {
-        return armed(index, second, line);
-    }
-    Line::Bad
+    armed(index, second, line)
 }
 
-fn frame(line: &[u8]) -> Line {
-    if script::count(line) != 5 {
-        return Line::Bad;
-    }
-    let Bit::Value(seen) = named::as_bit(script::word(line, 2)) else {
-        return Line::Bad;
-    };
-    let Number::Value(number) = at_most(line, 3, 65535) else {
+fn frame(line: &[u8]) -> Line
+    ensures { λ r. ⌜ r ≡ forceFrame 2 (wordsOf (now (line .entry))) ⌝ }
+{
+    let Bit::Value(seen) = argument::as_bit(line, 2) else {
         return Line::Bad;
     };
-    let Number::Value(repeats) = at_most(line, 4, 255) else {
+    let Number::Value(number) = argument::at_most(line, 3, 65535) else {
+        return Line::Bad;
+    };
+    let Number::Value(repeats) = argument::at_most(line, 4, 255) else {
         return Line::Bad;
     };
     let next = Frame {
@@ -266,33 +301,24 @@ fn frame(line: &[u8]) -> Line {
         number,
         repeats,
     };
-    Line::Force(Forced::Frame(next))
-}
-
-// A field of the core itself is one number.
-fn device(what: usize, line: &[u8]) -> Line {
-    if script::count(line) != 3 {
-        return Line::Bad;
-    }
-    match what {
-        0 => memory(line),
-        1 => address(line),
-        2 => events(line),
-        _ => Line::Bad,
-    }
+    argument::whole(line, 5, Line::Force(Forced::Frame(next)))
 }
 
 // The arms in the order of the names.
-pub fn force(line: &[u8]) -> Line {
-    let what = script::place(
+pub fn force(line: &[u8]) -> Line
+    ensures { λ r. ⌜ r ≡ forceForm 1 (wordsOf (now (line .entry))) ⌝ }
+{
+    match script::place(
         script::word(line, 1),
         b"memory address events wait record buffer frame",
-    );
-    match what {
+    ) {
+        0 => memory(line),
+        1 => address(line),
+        2 => events(line),
         3 => wait(line),
         4 => record(line),
         5 => buffer(line),
         6 => frame(line),
-        _ => device(what, line),
+        _ => Line::Bad,
     }
 }
