@@ -8,7 +8,7 @@ use crate::turn::{Says, Turn};
 use state::{Descriptor, Kind, Record, RecordEvent, range, served, sound, update};
 
 // OUT, SETUP and PING look on the OUT side.
-#[derive(Drop)]
+#[derive(Clone, Copy)]
 pub enum Direction {
     Out,
     In,

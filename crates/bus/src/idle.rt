@@ -12,7 +12,7 @@ use wire::pid::{Kind, Pid};
 use wire::token::Token;
 
 // What a packet is to the core: nothing, an event, a frame, or a token for the record found.
-#[derive(Drop)]
+#[derive(Clone, Copy)]
 pub enum Met {
     Nothing,
     Trouble(SystemEvent),

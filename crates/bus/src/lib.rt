@@ -1,4 +1,6 @@
 // The bus calls: a packet arrives, or a wait runs out.
+#![tactic(auto)]
+
 mod active;
 mod arrival;
 mod data;
@@ -20,7 +22,7 @@ pub use token::Asks;
 pub use turn::{Says, Step, Store, Turn};
 
 // Silent; a reply of so many bytes; an SOF with its frame number; or the number of the refusal.
-#[derive(Drop)]
+#[derive(Clone, Copy)]
 pub enum Answer {
     Silent,
     Reply(usize),
@@ -28,7 +30,7 @@ pub enum Answer {
     Refused(u8),
 }
 
-#[derive(Drop)]
+#[derive(Clone, Copy)]
 pub struct Outcome {
     pub core: Core,
     pub answer: Answer,

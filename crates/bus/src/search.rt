@@ -6,7 +6,7 @@ use crate::active;
 use crate::active::Direction;
 use state::{Core, Record, range};
 
-#[derive(Drop)]
+#[derive(Clone, Copy)]
 pub enum Found {
     At(usize),
     Nowhere,

@@ -8,7 +8,7 @@ use crate::{active, turn};
 use state::{Condition, Record, RecordEvent, Stage, Transfer, Wait, range, sound, update};
 
 // What a token asks of a record.
-#[derive(Drop)]
+#[derive(Clone, Copy)]
 pub enum Asks {
     Out,
     Setup,

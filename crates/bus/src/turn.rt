@@ -5,14 +5,14 @@ ghost use Rattle.bus.specs.Turn.{saying, noting, waiting, placed, unchanged, sig
 use state::{Core, Record, RecordEvent, SystemEvent, Wait, update};
 
 // Where the payload is stored.
-#[derive(Drop)]
+#[derive(Clone, Copy)]
 pub enum Store {
     Nowhere,
     At(usize),
 }
 
 // What is said on the bus; a frame is not said there, the packet is answered as SOF.
-#[derive(Drop)]
+#[derive(Clone, Copy)]
 pub enum Says {
     Silence,
     Ack,
@@ -27,7 +27,7 @@ pub enum Says {
     Frame(u16),
 }
 
-#[derive(Drop)]
+#[derive(Clone, Copy)]
 pub struct Turn {
     pub after: Record,
     pub wait: Wait,
@@ -35,7 +35,7 @@ pub struct Turn {
     pub says: Says,
 }
 
-#[derive(Drop)]
+#[derive(Clone, Copy)]
 pub struct Step {
     pub core: Core,
     pub store: Store,

@@ -8,31 +8,31 @@ use crate::line::Line;
 use script::Number;
 use state::{Condition, Kind, Speed, Transfer};
 
-#[derive(Drop)]
+#[derive(Clone, Copy)]
 pub enum SpeedWord {
     Speed(Speed),
     Other,
 }
 
-#[derive(Drop)]
+#[derive(Clone, Copy)]
 pub enum ConditionWord {
     Condition(Condition),
     Other,
 }
 
-#[derive(Drop)]
+#[derive(Clone, Copy)]
 pub enum KindWord {
     Kind(Kind),
     Other,
 }
 
-#[derive(Drop)]
+#[derive(Clone, Copy)]
 pub enum TransferWord {
     Transfer(Transfer),
     Other,
 }
 
-#[derive(Drop)]
+#[derive(Clone, Copy)]
 pub enum Bit {
     Value(bool),
     Other,

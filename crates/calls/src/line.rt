@@ -3,7 +3,7 @@ use frame::Frame;
 use state::{Condition, Descriptor, Endpoint, Kind, Speed, Transfer, Wait};
 
 // A call of the firmware, with its arguments as written.
-#[derive(Drop)]
+#[derive(Clone, Copy)]
 pub enum Call {
     Start(Speed, u32),
     Configure(u32, Condition, Endpoint),
@@ -18,7 +18,7 @@ pub enum Call {
 }
 
 // A field of a record, and what it is set to.
-#[derive(Drop)]
+#[derive(Clone, Copy)]
 pub enum Field {
     Condition(Condition),
     Kind(Kind),
@@ -32,7 +32,7 @@ pub enum Field {
 }
 
 // A field that is set with no judgement.
-#[derive(Drop)]
+#[derive(Clone, Copy)]
 pub enum Forced {
     Memory(u32),
     Address(u32),
@@ -44,14 +44,14 @@ pub enum Forced {
 }
 
 // How many bytes the calls lend: the first M and 1,027, or what a line said.
-#[derive(Drop)]
+#[derive(Clone, Copy)]
 pub enum Lend {
     Default,
     Given(u32, u32),
 }
 
 // The bytes of packet, encode, decode and fill stand beside it.
-#[derive(Drop)]
+#[derive(Clone, Copy)]
 pub enum Line {
     Firmware(Call),
     Packet,

@@ -1,4 +1,6 @@
 // Each call of the core once, with the behaviour's step as its contract: so what is proved of the behaviour is proved of the code.
+#![tactic(auto)]
+
 ghost use Rattle.firmware.specs.Records.{endpoint_of};
 ghost use Rattle.demands.specs.Behaviour.{Start, Configure, Arm, Disarm, SetHalt, ClearHalt, SetAddress, BusReset, RecordEvents, SystemEvents, Packet, Timeout, Steps, StepsOnBus};
 

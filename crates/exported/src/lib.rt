@@ -1,4 +1,6 @@
 // What a Rust or a C program links: numbers and lent bytes, since a core by value does not cross.
+#![tactic(auto)]
+
 mod scene;
 mod traffic;
 

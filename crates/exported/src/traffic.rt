@@ -7,7 +7,7 @@ use bus::Answer;
 use state::Core;
 
 // The core, and the sum of what it answered so far.
-#[derive(Drop)]
+#[derive(Clone, Copy)]
 pub struct Played {
     pub core: Core,
     pub sum: u64,

@@ -5,13 +5,13 @@ ghost use Rattle.firmware.specs.Answers.{settled};
 use state::Core;
 
 // Done, with the number that the call returns, 0 where it returns none; or refused, with the number of the refusal.
-#[derive(Drop)]
+#[derive(Clone, Copy)]
 pub enum Answer {
     Done(u32),
     Refused(u8),
 }
 
-#[derive(Drop)]
+#[derive(Clone, Copy)]
 pub struct Outcome {
     pub core: Core,
     pub answer: Answer,

@@ -1,5 +1,7 @@
 // The firmware's calls of document 01. Each judges its own arguments, answers a refusal by its number, and then returns the state that it
 // was given.
+#![tactic(auto)]
+
 mod answer;
 mod buffer;
 mod device;

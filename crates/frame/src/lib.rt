@@ -1,9 +1,11 @@
 // The frame call of document 01: how often the frame number of a SOF came again directly.
+#![tactic(auto)]
+
 ghost use Rattle.std.specs.Prelude.{◌≡◌};
 ghost use Rattle.frame.specs.Frames.{empty, no_run_gives, refusal_of, repeats_after, counted_of, outcome};
 
 // The last frame number, and how often it came again directly. Before the first SOF none is seen, which is not frame 0.
-#[derive(Drop)]
+#[derive(Clone, Copy)]
 pub struct Frame {
     pub seen: bool,
     pub number: u32,
@@ -11,13 +13,13 @@ pub struct Frame {
 }
 
 // The repeat count, or the number of the refusal.
-#[derive(Drop)]
+#[derive(Clone, Copy)]
 pub enum Answer {
     Repeats(u32),
     Refused(u8),
 }
 
-#[derive(Drop)]
+#[derive(Clone, Copy)]
 pub struct Outcome {
     pub frame: Frame,
     pub answer: Answer,

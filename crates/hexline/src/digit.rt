@@ -3,14 +3,14 @@ ghost use Rattle.std.specs.Prelude.{◌≡◌, ◌<◌};
 ghost use Rattle.hexline.specs.Digits.{digit_of, pair_of, glyph_of};
 
 // What a character says as a digit.
-#[derive(Drop)]
+#[derive(Clone, Copy)]
 pub enum Digit {
     Value(u8),
     Other,
 }
 
 // What two of them say as a byte.
-#[derive(Drop)]
+#[derive(Clone, Copy)]
 pub enum Pair {
     Byte(u8),
     Other,

@@ -1,4 +1,6 @@
 // Bytes as text: two hexadecimal digits to a byte, read from a line character by character, and written.
+#![tactic(auto)]
+
 mod digit;
 mod line;
 mod spelling;

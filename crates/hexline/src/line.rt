@@ -6,7 +6,7 @@ use crate::digit::Pair;
 use crate::{digit, front};
 
 // What was taken: pairs, so many of whose bytes are kept; pairs and one character more; or what no good line begins with.
-#[derive(Drop)]
+#[derive(Clone, Copy)]
 pub enum Line {
     Pairs(usize),
     Half(usize, u8),

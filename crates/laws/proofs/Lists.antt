@@ -60,10 +60,11 @@ module _ {A : Type 0} (f : A → A → Bool) (d : A) where
 
     pub pairs_turn : i < n → j < n → f (get_or l i d) (get_or l j d) ≡ true → PairsLeft f d l n i (j + 1)
     pairs_turn h k e =
+        let passes : f (get_or (take n l) i d) (get_or l j d) ≡ true = rw (get_or-take n l i d h) e in
         record {
           after = omega (arith, inv.after);
           within = omega arith;
-          left = inv.left ∙ rw (add-one, row j k, get_or-take n l i d h, e);
+          left = inv.left ∙ rw (add-one, row j k, passes);
         }
 
     pub pairs_stop : i < n → j < n → f (get_or l i d) (get_or l j d) ≡ false → pairs f (take n l) ≡ false

@@ -18,7 +18,7 @@ pub const OUT: usize = 0;
 pub const IN: usize = 1;
 
 // The core, the line as far as it was read, how many characters that is, and the output.
-#[derive(Drop)]
+#[derive(Clone, Copy)]
 pub struct Desk {
     pub core: Core,
     pub line: Line,

@@ -1,4 +1,6 @@
 // The night desk's listing of document 01: a packet a line in hexadecimal, and what the core replies to it, as text or as a capture.
+#![tactic(auto)]
+
 mod capture;
 mod desk;
 mod output;

@@ -6,7 +6,7 @@ use crate::{capture, printed};
 use bus::Answer;
 
 // How packets and replies are written.
-#[derive(Drop)]
+#[derive(Clone, Copy)]
 pub enum Form {
     // A line of hexadecimal for the reply to each packet, and the done counts at the end.
     Text,
@@ -15,7 +15,7 @@ pub enum Form {
 }
 
 // The form, the time of the next record, and whether every write was taken.
-#[derive(Drop)]
+#[derive(Clone, Copy)]
 pub struct Output {
     pub form: Form,
     pub stamp: u64,

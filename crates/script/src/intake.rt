@@ -15,7 +15,7 @@ const LONGEST: usize = 16;
 
 // Where what is kept ends, where the last word begins in it, and that word as bytes. A word that begins before 136 may end behind it, where
 // nothing is kept: only so is a zero told from a longer word.
-#[derive(Drop)]
+#[derive(Clone, Copy)]
 pub struct Intake {
     pub length: usize,
     pub start: usize,

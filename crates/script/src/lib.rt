@@ -1,4 +1,6 @@
 // Lines of words: what a number, a word and bytes are, a line of any length taken in parts, and the text of an answer.
+#![tactic(auto)]
+
 mod intake;
 mod number;
 mod text;

@@ -3,7 +3,7 @@ ghost use Rattle.std.specs.Prelude.{◌≡◌};
 ghost use Rattle.script.specs.Numbers.{is_decimal, appended_of, number_of};
 
 // What a word says as a number: 0 to 4,294,967,295, without sign.
-#[derive(Drop)]
+#[derive(Clone, Copy)]
 pub enum Number {
     Value(u32),
     Other,

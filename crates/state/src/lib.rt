@@ -1,4 +1,6 @@
 // The state of the core, as document 01 gives it under "State", and the test of whether it is sound.
+#![tactic(auto)]
+
 pub mod events;
 pub mod range;
 pub mod served;
@@ -6,21 +8,21 @@ pub mod sound;
 pub mod spans;
 pub mod update;
 
-#[derive(Drop)]
+#[derive(Clone, Copy)]
 pub enum Speed {
     Full,
     High,
 }
 
 // The variant that stands for zero comes first in each enum of a record.
-#[derive(Drop)]
+#[derive(Clone, Copy)]
 pub enum Condition {
     Off,
     Normal,
     Halted,
 }
 
-#[derive(Drop)]
+#[derive(Clone, Copy)]
 pub enum Kind {
     Control,
     In,
@@ -28,7 +30,7 @@ pub enum Kind {
 }
 
 // What document 01 calls a record's type.
-#[derive(Drop)]
+#[derive(Clone, Copy)]
 pub enum Transfer {
     Control,
     Bulk,
@@ -36,7 +38,7 @@ pub enum Transfer {
 }
 
 // What configure makes of a record.
-#[derive(Drop)]
+#[derive(Clone, Copy)]
 pub struct Endpoint {
     pub kind: Kind,
     pub transfer: Transfer,
@@ -45,14 +47,14 @@ pub struct Endpoint {
 }
 
 // True is DATA1. An OUT or IN record has one of the two, and keeps the other at DATA0.
-#[derive(Drop)]
+#[derive(Clone, Copy)]
 pub struct Toggles {
     pub out_side: bool,
     pub in_side: bool,
 }
 
 // Bits 0 to 6, in this order.
-#[derive(Drop)]
+#[derive(Clone, Copy)]
 pub struct RecordEvents {
     pub wait_ended: bool,
     pub not_good: bool,
@@ -64,7 +66,7 @@ pub struct RecordEvents {
 }
 
 // Bits 20, 21, 22 and 28, in this order.
-#[derive(Drop)]
+#[derive(Clone, Copy)]
 pub struct SystemEvents {
     pub bad_token: bool,
     pub bad_pid: bool,
@@ -73,7 +75,7 @@ pub struct SystemEvents {
 }
 
 // The events of a record, by name.
-#[derive(Drop)]
+#[derive(Clone, Copy)]
 pub enum RecordEvent {
     WaitEnded,
     NotGood,
@@ -84,7 +86,7 @@ pub enum RecordEvent {
     ShortPacket,
 }
 
-#[derive(Drop)]
+#[derive(Clone, Copy)]
 pub enum SystemEvent {
     BadToken,
     BadPid,
@@ -92,7 +94,7 @@ pub enum SystemEvent {
     BusReset,
 }
 
-#[derive(Drop)]
+#[derive(Clone, Copy)]
 pub enum Descriptor {
     Unallocated,
     Armed {
@@ -105,7 +107,7 @@ pub enum Descriptor {
 
 // A mark or a number of a buffer is a bool: false is buffer 0, `first`, and true is buffer 1, `second`. Condition and events stand first and
 // together: eight bytes, which the zero test of an off record reads at once.
-#[derive(Drop)]
+#[derive(Clone, Copy)]
 pub struct Record {
     pub condition: Condition,
     pub events: RecordEvents,
@@ -117,13 +119,13 @@ pub struct Record {
 }
 
 // What the data that is awaited follows.
-#[derive(Drop)]
+#[derive(Clone, Copy)]
 pub enum Stage {
     Setup,
     Out,
 }
 
-#[derive(Drop)]
+#[derive(Clone, Copy)]
 pub enum Wait {
     Nothing,
     Data {
@@ -137,7 +139,7 @@ pub enum Wait {
     },
 }
 
-#[derive(Drop)]
+#[derive(Clone, Copy)]
 pub struct Core {
     pub memory_size: u32,
     pub address: u32,

@@ -6,7 +6,7 @@ ghost use Rattle.state.specs.Served.{serves_out, serves_in, end_of, same_end, be
 use crate::{Endpoint, Kind, Record, range};
 
 // A number, and the kind that has the directions in which it is served.
-#[derive(Drop)]
+#[derive(Clone, Copy)]
 pub struct End {
     pub number: u32,
     pub kind: Kind,

@@ -6,7 +6,7 @@ ghost use Rattle.state.specs.Spans.{span_from, spans_in, Within, spans_of, armed
 use crate::{Descriptor, Record};
 
 // The bytes from `base` up to, and not with, `end`. A sound span's end fits 32 bits.
-#[derive(Drop)]
+#[derive(Clone, Copy)]
 pub(crate) struct Span {
     pub base: u32,
     pub end: u32,

@@ -1,4 +1,6 @@
 // The call script: a call a line, and what the core answered to it.
+#![tactic(auto)]
+
 mod forced;
 mod played;
 mod port;
@@ -12,7 +14,7 @@ use port::Port;
 use script::Intake;
 
 // The calls, and the line as far as it was taken; not open where the input has ended or a write failed.
-#[derive(Drop)]
+#[derive(Clone, Copy)]
 struct Desk {
     port: Port,
     intake: Intake,

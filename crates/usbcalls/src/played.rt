@@ -11,7 +11,7 @@ use wire::data::Written;
 const LONGEST: usize = 2048;
 
 // What a line leaves, and how long the text of its answer is.
-#[derive(Drop)]
+#[derive(Clone, Copy)]
 pub struct Turn {
     pub port: Port,
     pub said: usize,

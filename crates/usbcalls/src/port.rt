@@ -6,7 +6,7 @@ use firmware::Outcome;
 use frame::Frame;
 use state::{Core, Speed};
 
-#[derive(Drop)]
+#[derive(Clone, Copy)]
 pub struct Port {
     pub core: Core,
     pub frame: Frame,

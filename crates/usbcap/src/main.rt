@@ -1,4 +1,6 @@
 // The night desk's listing as a capture file.
+#![tactic(auto)]
+
 use listing::Form;
 
 fn main() {

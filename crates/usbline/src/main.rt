@@ -1,4 +1,6 @@
 // The night desk's listing as text.
+#![tactic(auto)]
+
 use listing::Form;
 
 fn main() {

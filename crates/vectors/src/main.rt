@@ -1,4 +1,6 @@
 // Packets that documents 01 and 003 write out, played through the packet layer.
+#![tactic(auto)]
+
 use libc::STDOUT_FILENO;
 use wire::data::{Verdict, Written};
 use wire::token::Token;

@@ -8,14 +8,14 @@ use crate::pid::{Kind, Pid};
 use crate::{crc, pid, token};
 
 // What reading a data packet finds.
-#[derive(Drop)]
+#[derive(Clone, Copy)]
 pub enum Verdict {
     Good(Kind),
     NotGood,
 }
 
 // What writing one answers: the packet's length, or the number of the refusal.
-#[derive(Drop)]
+#[derive(Clone, Copy)]
 pub enum Written {
     Packet(usize),
     Refused(u8),

@@ -3,7 +3,7 @@ ghost use Rattle.std.specs.Prelude.{◌≡◌};
 ghost use Rattle.wire.specs.Pid.{kind_of, is_data, pid_of};
 
 // The sixteen kinds, in the order of their numbers.
-#[derive(Drop)]
+#[derive(Clone, Copy)]
 pub enum Kind {
     Reserved,
     Out,
@@ -23,7 +23,7 @@ pub enum Kind {
     Mdata,
 }
 
-#[derive(Drop)]
+#[derive(Clone, Copy)]
 pub enum Pid {
     Checked(Kind),
     Failed,

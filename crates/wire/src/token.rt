@@ -88,7 +88,7 @@ const CRC5: [u8; 2048] = [
 ];
 
 // What a token says: the address and the endpoint, or, of an SOF, the frame.
-#[derive(Drop)]
+#[derive(Clone, Copy)]
 pub enum Token {
     Good {
         address: u8,
