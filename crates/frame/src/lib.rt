@@ -36,6 +36,7 @@ pub fn empty() -> Frame
     }
 }
 
+#[tactic(auto, unfolding(crate::specs::Frames::no_run_gives))]
 fn no_run_gives(frame: Frame) -> bool
     ensures { result ≡ no_run_gives frame }
 {
@@ -54,6 +55,7 @@ fn refusal(frame: Frame, number: u32) -> u8
     0
 }
 
+#[tactic(auto, unfolding(crate::specs::Frames::repeats_after))]
 fn repeats_after(frame: Frame, number: u32) -> u32
     ensures { result ≡ repeats_after frame number }
 {
@@ -68,6 +70,7 @@ fn repeats_after(frame: Frame, number: u32) -> u32
 }
 
 // A refused call returns the frame record as it was.
+#[tactic(auto, unfolding(crate::specs::Frames::counted_of))]
 pub fn counted(before: Frame, number: u32) -> Outcome
     ensures { result ≡ counted_of before number }
 {
