@@ -43,7 +43,7 @@ fn put(at: usize, payload: &[u8], memory: &mut [u8])
     ensures { memory.new ≡ written at payload.now memory.old }
 {
     let end = at + payload.len();
-    bytes::copy(payload, &mut memory[at..end]);
+    memory[at..end].copy_from_slice(payload);
 }
 
 fn store(place: Store, payload: &[u8], memory: &mut [u8])

@@ -49,6 +49,6 @@ pub fn lay(stamp: u64, original: u64, kept: &[u8], buffer: &mut [u8]) -> usize
 {
     head(buffer, stamp, kept.len() as u64, original);
     let end = 16 + kept.len();
-    bytes::copy(kept, &mut buffer[16..end]);
+    buffer[16..end].copy_from_slice(kept);
     end
 }

@@ -6,23 +6,23 @@ mod desk;
 mod output;
 mod printed;
 
-ghost use Rattle.std.specs.Prelude.{List, ℕ};
+ghost use Rattle.std.specs.Prelude.{List, ℕ, ◌≤◌, length};
 ghost use Rattle.hexline.specs.Line.{Stands};
 ghost use Rattle.listing.specs.Listing.{Answered};
 
 use desk::Desk;
-use libc::STDIN_FILENO;
 pub use output::Form;
+use std::io::{Input, Read};
 
 // Answers the line that was taken, and begins the next.
-fn answered(d: Desk, memory: &mut [u8; 256], packet: &[u8; 1028]) -> Desk
+fn answered(rt: &impl Print, d: Desk, memory: &mut [u8; 256], packet: &[u8; 1028]) -> Desk
     ensures { (line : List ℕ) → Stands line d.line packet.now → Answered line packet.now d.core memory.old result.core memory.new }
 {
     let line = d.line;
     let core = d.core;
     let output = d.output;
     if !hexline::is_good(line) {
-        return desk::next(core, output::unanswered(output));
+        return desk::next(core, output::unanswered(rt, output));
     }
     let arrived = hexline::kept(line, packet);
     let mut reply = [0u8; 1027];
@@ -31,19 +31,31 @@ fn answered(d: Desk, memory: &mut [u8; 256], packet: &[u8; 1028]) -> Desk
     let answer = o.answer;
     desk::next(
         left,
-        output::answered(output, desk::original(d), arrived, answer, &reply),
+        output::answered(rt, output, desk::original(d), arrived, answer, &reply),
     )
 }
 
+// Where the line that begins at this place ends: at the next line feed, or behind the text where there is none.
+fn line_end(text: &[u8], at: usize) -> usize
+    requires { at ≤ length text.now }
+    ensures from { at ≤ result }
+    ensures within { result ≤ length text.now }
+{
+    match text[at..].iter().position(|c| *c == b'\n') {
+        Some(n) => at + n,
+        None => text.len(),
+    }
+}
+
 // Every line that ends in this text is answered; what follows the last is kept for the text to come.
-fn lines(d: Desk, memory: &mut [u8; 256], packet: &mut [u8; 1028], text: &[u8]) -> Desk {
+fn lines(rt: &impl Print, d: Desk, memory: &mut [u8; 256], packet: &mut [u8; 1028], text: &[u8]) -> Desk {
     let mut now = d;
     let mut at = 0;
     while at < text.len() {
-        let end = bytes::scan::find(text, at, text.len(), b'\n');
+        let end = line_end(text, at);
         now = desk::taken(now, packet, &text[at..end]);
         if end < text.len() {
-            now = answered(now, memory, packet);
+            now = answered(rt, now, memory, packet);
         }
         if !now.output.open {
             return now;
@@ -54,17 +66,18 @@ fn lines(d: Desk, memory: &mut [u8; 256], packet: &mut [u8; 1028], text: &[u8]) 
 }
 
 // The input has ended: a line that has no end is answered all the same, and the output is closed.
-fn ended(d: Desk, memory: &mut [u8; 256], packet: &[u8; 1028]) -> Desk {
+fn ended(rt: &impl Print, d: Desk, memory: &mut [u8; 256], packet: &[u8; 1028]) -> Desk {
     let mut last = d;
     let line = d.line;
     if !hexline::is_empty(line) {
-        last = answered(d, memory, packet);
+        last = answered(rt, d, memory, packet);
     }
     let core = last.core;
     let output = last.output;
     desk::next(
         core,
         output::ended(
+            rt,
             output,
             desk::done(core, desk::OUT),
             desk::done(core, desk::IN),
@@ -73,25 +86,24 @@ fn ended(d: Desk, memory: &mut [u8; 256], packet: &[u8; 1028]) -> Desk {
 }
 
 // One read, and each line that it completes. Lines are answered before the next read, which may wait for a host that waits for them.
-fn listen(d: Desk, memory: &mut [u8; 256], packet: &mut [u8; 1028]) -> Desk {
-    let mut text = io::buffer();
-    let got = libc::read(STDIN_FILENO, &mut text);
-    let n = io::count(got, &text);
-    if n == 0 {
-        return ended(d, memory, packet);
+fn listen(rt: &(impl Input + Print), d: Desk, memory: &mut [u8; 256], packet: &mut [u8; 1028]) -> Desk {
+    let mut text = [0u8; 4096];
+    match rt.reader().read(&mut text) {
+        Ok(0) => ended(rt, d, memory, packet),
+        Ok(n) => lines(rt, d, memory, packet, &text[..n]),
+        Err(_) => ended(rt, d, memory, packet),
     }
-    lines(d, memory, packet, &text[..n])
 }
 
 // A loop has to end, and nothing says that an input does: it counts down from a number that no run uses up.
-pub fn run(form: Form) {
+pub fn run(rt: &(impl Input + Print), form: Form) {
     let mut memory = [0u8; 256];
     // Past 1,027 bytes a packet's outcome is that of its first 1,028.
     let mut packet = [0u8; 1028];
-    let mut d = desk::next(desk::set_up(), output::begun(form));
+    let mut d = desk::next(desk::set_up(), output::begun(rt, form));
     let mut turns = u64::MAX;
     while turns > 0 && d.output.open {
-        d = listen(d, &mut memory, &mut packet);
+        d = listen(rt, d, &mut memory, &mut packet);
         turns -= 1;
     }
 }

@@ -33,18 +33,18 @@ fn later(stamp: u64) -> u64
 }
 
 // One write of the first n bytes.
-fn written(text: &[u8; 1044], n: usize) -> bool {
-    printed::words(hexline::front(text, n))
+fn written(rt: &impl Print, text: &[u8; 1044], n: usize) -> bool {
+    printed::words(rt, hexline::front(text, n))
 }
 
-fn header() -> bool {
+fn header(rt: &impl Print) -> bool {
     let mut text = [0u8; 1044];
     let n = capture::begin(&mut text);
-    written(&text, n)
+    written(rt, &text, n)
 }
 
 // What stands in front of the first line.
-pub fn begun(form: Form) -> Output {
+pub fn begun(rt: &impl Print, form: Form) -> Output {
     match form {
         Form::Text => Output {
             form,
@@ -54,13 +54,13 @@ pub fn begun(form: Form) -> Output {
         Form::Capture => Output {
             form,
             stamp: 0,
-            open: header(),
+            open: header(rt),
         },
     }
 }
 
 // A record, if what stands before it was taken. It keeps no more bytes than the header says.
-fn recorded(o: Output, original: u64, bytes: &[u8]) -> Output
+fn recorded(rt: &impl Print, o: Output, original: u64, bytes: &[u8]) -> Output
     ensures { result.stamp ≡ cond o.open (min (o.stamp + 1) last_time) o.stamp }
 {
     if !o.open {
@@ -72,17 +72,17 @@ fn recorded(o: Output, original: u64, bytes: &[u8]) -> Output
     Output {
         form,
         stamp: later(o.stamp),
-        open: written(&text, n),
+        open: written(rt, &text, n),
     }
 }
 
 // The packet that arrived, and the reply if there is one.
-fn exchanged(o: Output, original: u64, arrived: &[u8], a: Answer, reply: &[u8; 1027]) -> Output {
-    let first = recorded(o, original, arrived);
+fn exchanged(rt: &impl Print, o: Output, original: u64, arrived: &[u8], a: Answer, reply: &[u8; 1027]) -> Output {
+    let first = recorded(rt, o, original, arrived);
     match a {
         Answer::Reply(n) => {
             let bytes = hexline::front(reply, n);
-            recorded(first, bytes.len() as u64, bytes)
+            recorded(rt, first, bytes.len() as u64, bytes)
         }
         Answer::Silent => first,
         Answer::Sof(_) => first,
@@ -90,37 +90,37 @@ fn exchanged(o: Output, original: u64, arrived: &[u8], a: Answer, reply: &[u8; 1
     }
 }
 
-pub fn answered(o: Output, original: u64, arrived: &[u8], a: Answer, reply: &[u8; 1027]) -> Output {
+pub fn answered(rt: &impl Print, o: Output, original: u64, arrived: &[u8], a: Answer, reply: &[u8; 1027]) -> Output {
     let form = o.form;
     match form {
         Form::Text => Output {
             form,
             stamp: o.stamp,
-            open: printed::answer(a, reply),
+            open: printed::answer(rt, a, reply),
         },
-        Form::Capture => exchanged(o, original, arrived, a, reply),
+        Form::Capture => exchanged(rt, o, original, arrived, a, reply),
     }
 }
 
 // A bad line is no packet, so a capture has no record of it.
-pub fn unanswered(o: Output) -> Output {
+pub fn unanswered(rt: &impl Print, o: Output) -> Output {
     let form = o.form;
     match form {
         Form::Text => Output {
             form,
             stamp: o.stamp,
-            open: printed::words(b"bad line\n"),
+            open: printed::words(rt, b"bad line\n"),
         },
         Form::Capture => o,
     }
 }
 
 // The input has ended: nothing is written any more but the done counts.
-pub fn ended(o: Output, out: u32, taken: u32) -> Output {
+pub fn ended(rt: &impl Print, o: Output, out: u32, taken: u32) -> Output {
     let form = o.form;
     if o.open {
         match form {
-            Form::Text => printed::counts(out, taken),
+            Form::Text => printed::counts(rt, out, taken),
             Form::Capture => {}
         }
     }

@@ -2,37 +2,40 @@
 ghost use Rattle.std.specs.Prelude.{◌≤◌, length};
 
 use bus::Answer;
-use libc::STDOUT_FILENO;
 
-pub fn words(text: &[u8]) -> bool {
-    io::write_all(STDOUT_FILENO, text)
+pub fn words(rt: &impl Print, text: &[u8]) -> bool {
+    rt.write_all(text).is_ok()
 }
 
 // A reply's digits and the line's end.
-fn digits(bytes: &[u8]) -> bool
+fn digits(rt: &impl Print, bytes: &[u8]) -> bool
     requires { length bytes.now ≤ 1027 }
 {
     let mut text = [0u8; 2055];
     let n = hexline::spell(bytes, &mut text);
     text[n] = b'\n';
-    words(&text[..n + 1])
+    words(rt, &text[..n + 1])
 }
 
 // The reply, or "-" for none.
-pub fn answer(a: Answer, reply: &[u8; 1027]) -> bool {
+pub fn answer(rt: &impl Print, a: Answer, reply: &[u8; 1027]) -> bool {
     match a {
-        Answer::Reply(n) => digits(hexline::front(reply, n)),
-        Answer::Silent => words(b"-\n"),
-        Answer::Sof(_) => words(b"-\n"),
-        Answer::Refused(_) => words(b"-\n"),
+        Answer::Reply(n) => digits(rt, hexline::front(reply, n)),
+        Answer::Silent => words(rt, b"-\n"),
+        Answer::Sof(_) => words(rt, b"-\n"),
+        Answer::Refused(_) => words(rt, b"-\n"),
     }
 }
 
+fn number(rt: &impl Print, n: u32) -> bool {
+    print!(rt; "{n}").is_ok()
+}
+
 // The last line.
-pub fn counts(out: u32, taken: u32) {
-    words(b"out ");
-    io::print_decimal(STDOUT_FILENO, out as u64);
-    words(b" in ");
-    io::print_decimal(STDOUT_FILENO, taken as u64);
-    words(b"\n");
+pub fn counts(rt: &impl Print, out: u32, taken: u32) {
+    words(rt, b"out ");
+    number(rt, out);
+    words(rt, b" in ");
+    number(rt, taken);
+    words(rt, b"\n");
 }

@@ -20,7 +20,7 @@ pub fn put(text: &mut [u8], at: usize, bytes: &[u8]) -> usize
         return at;
     }
     let end = at + bytes.len();
-    bytes::copy(bytes, &mut text[at..end]);
+    text[at..end].copy_from_slice(bytes);
     end
 }
 

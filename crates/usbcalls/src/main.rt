@@ -9,9 +9,9 @@ mod shown;
 
 ghost use Rattle.std.specs.Prelude.{◌≤◌, length};
 
-use libc::{STDIN_FILENO, STDOUT_FILENO};
 use port::Port;
 use script::Intake;
+use std::io::{Input, Read};
 
 // The calls, and the line as far as it was taken; not open where the input has ended or a write failed.
 #[derive(Clone, Copy)]
@@ -38,13 +38,14 @@ fn is_silent(line: &[u8]) -> bool {
 }
 
 // An answer is one write, so that a host reads it whole.
-fn written(text: &mut [u8; 8704], said: usize) -> bool {
+fn written(rt: &impl Print, text: &mut [u8; 8704], said: usize) -> bool {
     let end = script::put(text, said, b"\n");
-    io::write_all(STDOUT_FILENO, hexline::front(text, end))
+    rt.write_all(hexline::front(text, end)).is_ok()
 }
 
 // Answers the line that was taken, and begins the next.
 fn answered(
+    rt: &impl Print,
     d: Desk,
     memory: &mut [u8; 131072],
     reply: &mut [u8; 1040],
@@ -62,11 +63,24 @@ fn answered(
     let bytes = script::bytes(intake, buffer);
     let turn = played::played(port, memory, reply, bytes, &mut text, asked);
     let after = turn.port;
-    next(after, written(&mut text, turn.said))
+    next(after, written(rt, &mut text, turn.said))
+}
+
+// Where the line that begins at this place ends: at the next line feed, or behind the text where there is none.
+fn line_end(text: &[u8], at: usize) -> usize
+    requires { at ≤ length text.now }
+    ensures from { at ≤ result }
+    ensures within { result ≤ length text.now }
+{
+    match text[at..].iter().position(|c| *c == b'\n') {
+        Some(n) => at + n,
+        None => text.len(),
+    }
 }
 
 // Every line that ends in this text is answered; what follows the last is kept for the text to come.
 fn lines(
+    rt: &impl Print,
     d: Desk,
     memory: &mut [u8; 131072],
     reply: &mut [u8; 1040],
@@ -79,10 +93,10 @@ fn lines(
     let mut now = d;
     let mut at = 0;
     while at < text.len() {
-        let end = bytes::scan::find(text, at, text.len(), b'\n');
+        let end = line_end(text, at);
         now = taken(now, kept, buffer, &text[at..end]);
         if end < text.len() {
-            now = answered(now, memory, reply, kept, buffer);
+            now = answered(rt, now, memory, reply, kept, buffer);
         }
         if !now.open {
             return now;
@@ -104,36 +118,37 @@ fn taken(d: Desk, kept: &mut [u8; 136], buffer: &mut [u8; 131073], part: &[u8]) 
 
 // The input has ended: a line that has no end is answered all the same.
 fn ended(
+    rt: &impl Print,
     d: Desk,
     memory: &mut [u8; 131072],
     reply: &mut [u8; 1040],
     kept: &[u8; 136],
     buffer: &[u8; 131073],
 ) -> Desk {
-    let last = answered(d, memory, reply, kept, buffer);
+    let last = answered(rt, d, memory, reply, kept, buffer);
     let port = last.port;
     next(port, false)
 }
 
 // One read, and each line that it completes. Lines are answered before the next read, which may wait for a host that waits for them.
 fn listen(
+    rt: &(impl Input + Print),
     d: Desk,
     memory: &mut [u8; 131072],
     reply: &mut [u8; 1040],
     kept: &mut [u8; 136],
     buffer: &mut [u8; 131073],
 ) -> Desk {
-    let mut text = io::buffer();
-    let got = libc::read(STDIN_FILENO, &mut text);
-    let n = io::count(got, &text);
-    if n == 0 {
-        return ended(d, memory, reply, kept, buffer);
+    let mut text = [0u8; 4096];
+    match rt.reader().read(&mut text) {
+        Ok(0) => ended(rt, d, memory, reply, kept, buffer),
+        Ok(n) => lines(rt, d, memory, reply, kept, buffer, &text[..n]),
+        Err(_) => ended(rt, d, memory, reply, kept, buffer),
     }
-    lines(d, memory, reply, kept, buffer, &text[..n])
 }
 
 // A loop has to end, and nothing says that an input does: it counts down from a number that no run uses up.
-fn main() {
+fn main(rt: HostRuntime) {
     let mut memory = [0u8; 131072];
     let mut reply = [0u8; 1040];
     let mut kept = [0u8; 136];
@@ -142,7 +157,7 @@ fn main() {
     let mut d = next(port::first(), true);
     let mut turns = u64::MAX;
     while turns > 0 && d.open {
-        d = listen(d, &mut memory, &mut reply, &mut kept, &mut buffer);
+        d = listen(&rt, d, &mut memory, &mut reply, &mut kept, &mut buffer);
         turns -= 1;
     }
 }

@@ -182,7 +182,7 @@ fn filled(memory: &mut [u8], bytes: &[u8], text: &mut [u8; 8704], base: u32) -> 
     if memory.len() < end {
         return script::put(text, 0, b"bad line");
     }
-    bytes::copy(bytes, &mut memory[start..end]);
+    memory[start..end].copy_from_slice(bytes);
     script::put(text, 0, b"ok")
 }
 

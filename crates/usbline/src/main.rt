@@ -3,6 +3,6 @@
 
 use listing::Form;
 
-fn main() {
-    listing::run(Form::Text);
+fn main(rt: HostRuntime) {
+    listing::run(&rt, Form::Text);
 }

@@ -1,100 +1,99 @@
 // Packets that documents 01 and 003 write out, played through the packet layer.
 #![tactic(auto)]
 
-use libc::STDOUT_FILENO;
+use std::io;
 use wire::data::{Verdict, Written};
 use wire::token::Token;
 
-fn number(n: u64, width: usize) {
-    io::write_all(STDOUT_FILENO, b" ");
-    io::print_hex(STDOUT_FILENO, n, width);
+fn number(rt: &impl Print, n: u64, width: usize) -> io::Result<()> {
+    print!(rt; " {n:0width$x}")
 }
 
-fn word(text: &[u8]) {
-    io::write_all(STDOUT_FILENO, text);
+fn word(rt: &impl Print, text: &[u8]) -> io::Result<()> {
+    rt.write_all(text)
 }
 
-fn byte(b: u8) {
-    io::print_hex(STDOUT_FILENO, b as u64, 2);
+fn byte(rt: &impl Print, b: u8) -> io::Result<()> {
+    print!(rt; "{b:02x}")
 }
 
 // The bytes in hexadecimal, and `-` for none.
-fn show(bytes: &[u8]) {
+fn show(rt: &impl Print, bytes: &[u8]) -> io::Result<()> {
     if bytes.len() == 0 {
-        word(b"-");
+        word(rt, b"-")?;
     }
-    let mut i = 0;
-    while i < bytes.len() {
-        byte(bytes[i]);
-        i += 1;
+    for b in bytes {
+        byte(rt, *b)?;
     }
+    Ok(())
 }
 
 // A token's bytes, and its address, endpoint and frame.
-fn token(packet: &[u8]) {
-    show(packet);
+fn token(rt: &impl Print, packet: &[u8]) -> io::Result<()> {
+    show(rt, packet)?;
     match wire::token::read(packet) {
         Token::Good {
             address,
             endpoint,
             frame,
         } => {
-            number(address as u64, 2);
-            number(endpoint as u64, 1);
-            number(frame as u64, 3);
-            word(b"\n");
+            number(rt, address as u64, 2)?;
+            number(rt, endpoint as u64, 1)?;
+            number(rt, frame as u64, 3)?;
+            word(rt, b"\n")
         }
-        Token::Bad => word(b" bad\n"),
+        Token::Bad => word(rt, b" bad\n"),
     }
 }
 
 // A data packet's bytes, its verdict and its payload.
-fn read(packet: &[u8]) {
-    show(packet);
+fn read(rt: &impl Print, packet: &[u8]) -> io::Result<()> {
+    show(rt, packet)?;
     let mut verdict: u8 = 0;
     let payload = wire::data::read(packet, &mut verdict);
     match wire::data::numbered(verdict) {
         Verdict::Good(_) => {
-            number(verdict as u64, 1);
-            word(b" ");
-            show(payload);
-            word(b"\n");
+            number(rt, verdict as u64, 1)?;
+            word(rt, b" ")?;
+            show(rt, payload)?;
+            word(rt, b"\n")
         }
-        Verdict::NotGood => word(b" not good\n"),
+        Verdict::NotGood => word(rt, b" not good\n"),
     }
 }
 
-fn front(buffer: &[u8], n: usize) {
+fn front(rt: &impl Print, buffer: &[u8], n: usize) -> io::Result<()> {
     if n <= buffer.len() {
-        read(&buffer[0..n]);
+        read(rt, &buffer[0..n])?;
     }
+    Ok(())
 }
 
 // What is written of a PID and a payload, read back.
-fn data(pid: u32, payload: &[u8]) {
+fn data(rt: &impl Print, pid: u32, payload: &[u8]) -> io::Result<()> {
     let mut buffer = [0u8; 1027];
     match wire::data::write(pid, payload, &mut buffer) {
-        Written::Packet(n) => front(&buffer, n),
+        Written::Packet(n) => front(rt, &buffer, n),
         Written::Refused(n) => {
-            word(b"refused");
-            number(n as u64, 1);
-            word(b"\n");
+            word(rt, b"refused")?;
+            number(rt, n as u64, 1)?;
+            word(rt, b"\n")
         }
     }
 }
 
-fn main() {
-    token(b"\xe1\x81\x58");
-    token(b"\x69\x81\x58");
-    token(b"\xe1\xe1\x6c");
-    token(b"\xe1\x81");
-    data(3, b"\xff");
-    data(11, b"");
-    data(3, b"\x00");
-    data(7, b"\xa9");
-    data(9, b"\x00");
-    read(b"\xc3\xff\x00\xfe");
-    read(b"\xd3\xff\x00\xff");
-    read(b"\xc3\xe1\x6c\x62");
-    read(b"\xc3\xff");
+fn main(rt: HostRuntime) -> io::Result<()> {
+    token(&rt, b"\xe1\x81\x58")?;
+    token(&rt, b"\x69\x81\x58")?;
+    token(&rt, b"\xe1\xe1\x6c")?;
+    token(&rt, b"\xe1\x81")?;
+    data(&rt, 3, b"\xff")?;
+    data(&rt, 11, b"")?;
+    data(&rt, 3, b"\x00")?;
+    data(&rt, 7, b"\xa9")?;
+    data(&rt, 9, b"\x00")?;
+    read(&rt, b"\xc3\xff\x00\xfe")?;
+    read(&rt, b"\xd3\xff\x00\xff")?;
+    read(&rt, b"\xc3\xe1\x6c\x62")?;
+    read(&rt, b"\xc3\xff")
 }
