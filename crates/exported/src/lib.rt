@@ -18,16 +18,14 @@ use wire::token::Token;
 use wire::{crc, data, token};
 
 // The check of a payload.
-#[unsafe(no_mangle)]
-pub extern "C" fn hnitbrek_crc16(payload: &[u8]) -> u16
+pub fn hnitbrek_crc16(payload: &[u8]) -> u16
     ensures { result ≡ crc16 payload.now }
 {
     crc::check(payload)
 }
 
 // Reads a data packet: lays down the verdict's number and returns the payload's length.
-#[unsafe(no_mangle)]
-pub extern "C" fn hnitbrek_read(packet: &[u8], verdict: &mut u8) -> usize
+pub fn hnitbrek_read(packet: &[u8], verdict: &mut u8) -> usize
     ensures value { result ≡ length (payload_of packet.now) }
     ensures laid { verdict.new ≡ verdict_number (verdict_of packet.now) }
 {
@@ -36,8 +34,7 @@ pub extern "C" fn hnitbrek_read(packet: &[u8], verdict: &mut u8) -> usize
 }
 
 // Writes a data packet: lays down the refusal's number, 0 for none, and returns the packet's length, 0 where refused.
-#[unsafe(no_mangle)]
-pub extern "C" fn hnitbrek_write(
+pub fn hnitbrek_write(
     pid: u32,
     payload: &[u8],
     buffer: &mut [u8],
@@ -60,8 +57,7 @@ pub extern "C" fn hnitbrek_write(
 }
 
 // Reads a token: its eleven bits, or 2,048, which no eleven bits are.
-#[unsafe(no_mangle)]
-pub extern "C" fn hnitbrek_token(packet: &[u8]) -> u32
+pub fn hnitbrek_token(packet: &[u8]) -> u32
     ensures { result ≡ token_number (token_of packet.now) }
 {
     match token::read(packet) {
@@ -79,8 +75,7 @@ fn yes(core: Core) -> u32
 }
 
 // How often the sound test says yes; the address differs each time, so that no test can be left out.
-#[unsafe(no_mangle)]
-pub extern "C" fn hnitbrek_sound(maximum: u32, times: u32) -> u32
+pub fn hnitbrek_sound(maximum: u32, times: u32) -> u32
     ensures value { result ≡ sound_of (set_up maximum) times }
     ensures most { result ≤ times }
 {
@@ -96,8 +91,7 @@ pub extern "C" fn hnitbrek_sound(maximum: u32, times: u32) -> u32
 }
 
 // Plays a list of packets so many times and returns a sum of the answers.
-#[unsafe(no_mangle)]
-pub extern "C" fn hnitbrek_play(
+pub fn hnitbrek_play(
     maximum: u32,
     list: &[u8],
     times: u32,
@@ -113,8 +107,7 @@ pub extern "C" fn hnitbrek_play(
 }
 
 // Plays a packet and then a timeout so many times and returns a sum of the answers.
-#[unsafe(no_mangle)]
-pub extern "C" fn hnitbrek_time_out(
+pub fn hnitbrek_time_out(
     maximum: u32,
     packet: &[u8],
     times: u32,
