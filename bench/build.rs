@@ -1,4 +1,4 @@
-//! Links the archive that `rt staticlib exported` writes.
+//! Links the archive that `bench/archive` writes.
 
 use std::env;
 use std::path::Path;
