@@ -37,6 +37,7 @@ fn weigh(set: bool, weight: u32) -> u32
     if set { weight } else { 0 }
 }
 
+#[tactic(auto, unfolding(crate::specs::Events::record_bits))]
 pub fn record_bits(e: RecordEvents) -> u32
     ensures { result ≡ record_bits e }
 {
@@ -49,6 +50,7 @@ pub fn record_bits(e: RecordEvents) -> u32
         + weigh(e.short_packet, 64)
 }
 
+#[tactic(auto, unfolding(crate::specs::Events::system_bits))]
 pub fn system_bits(e: SystemEvents) -> u32
     ensures { result ≡ system_bits e }
 {

@@ -59,6 +59,7 @@ fn maximum_fits(speed: Speed, transfer: Transfer, m: u32) -> bool
     }
 }
 
+#[tactic(auto, unfolding(crate::specs::Ranges::endpoint_fits))]
 pub fn endpoint_fits(speed: Speed, e: Endpoint) -> bool
     ensures { result ≡ endpoint_fits speed e }
 {
@@ -104,6 +105,7 @@ fn is_no_multiple(length: u32, maximum: u32) -> bool
 }
 
 // Refusal 12 of a span. The sum is taken where it cannot wrap.
+#[tactic(auto, unfolding(crate::specs::Ranges::misplaced))]
 pub fn is_misplaced(memory: u32, out: bool, maximum: u32, base: u32, length: u32) -> bool
     ensures { result ≡ misplaced memory out maximum base length }
 {
@@ -122,6 +124,7 @@ pub fn is_misplaced(memory: u32, out: bool, maximum: u32, base: u32, length: u32
     false
 }
 
+#[tactic(auto, unfolding(crate::specs::Ranges::mark_fits))]
 fn mark_fits(out: bool, maximum: u32, length: u32, left: u32, used: bool) -> bool
     ensures { result ≡ mark_fits out maximum length left used }
 {
@@ -195,6 +198,7 @@ fn has_event(e: RecordEvents) -> bool
         | e.short_packet
 }
 
+#[tactic(auto, unfolding(crate::specs::Ranges::is_zero))]
 pub fn is_zero(r: Record) -> bool
     ensures { result ≡ is_zero r }
 {
@@ -216,6 +220,7 @@ pub fn is_zero(r: Record) -> bool
         & !is_armed(second)
 }
 
+#[tactic(auto, unfolding(crate::specs::Ranges::live_fits))]
 fn live_fits(memory: u32, speed: Speed, r: Record) -> bool
     ensures { result ≡ live_fits memory speed r }
 {
@@ -232,6 +237,7 @@ fn live_fits(memory: u32, speed: Speed, r: Record) -> bool
 }
 
 // Whether a record by itself is sound.
+#[tactic(auto, unfolding(crate::specs::Ranges::record_fits))]
 pub(crate) fn record_fits(memory: u32, speed: Speed, r: Record) -> bool
     ensures { result ≡ record_fits memory speed r }
 {

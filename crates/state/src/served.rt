@@ -54,6 +54,7 @@ fn is_same_end(a: End, b: End) -> bool
 }
 
 // Whether two records can stand beside each other.
+#[tactic(auto, unfolding(crate::specs::Served::beside))]
 pub fn are_beside(r: Record, s: Record) -> bool
     ensures { result ≡ beside r s }
 {

@@ -85,6 +85,7 @@ fn wait_fits(r: Record, wait: Wait) -> bool
 }
 
 // One walk over the records tests each, and gathers what the live ones serve and the armed spans; the pairs of those are tested after it.
+#[tactic(auto, unfolding(crate::specs::Sound::is_sound))]
 pub fn is_sound(core: Core) -> bool
     ensures { result ≡ is_sound core }
 {

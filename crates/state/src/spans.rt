@@ -25,6 +25,7 @@ fn share(a: u64, a_end: u64, b: u64, b_end: u64) -> bool
     (a < a_end) & (b < b_end)
 }
 
+#[tactic(auto, unfolding(crate::specs::Spans::share_byte))]
 fn share_byte(a: Span, b: Span) -> bool
     ensures { result ≡ share_byte a b }
 {
@@ -79,6 +80,7 @@ pub(crate) fn count_of(d: Descriptor) -> usize
 }
 
 // Whether the span of `count` bytes from `from` shares no byte with a descriptor's. The sums are taken where they cannot wrap.
+#[tactic(auto, unfolding(crate::specs::Spans::share_byte))]
 fn is_clear_of(from: u32, count: u32, d: Descriptor) -> bool
     ensures { result ≡ all (apart (span_from from count)) (spans_in d) }
 {
