@@ -111,7 +111,7 @@ fn lay(payload: &[u8], place: &mut [u8]) -> u16
     requires { length payload.now ≡ length place.old }
     ensures { (result ≡ crc16 payload.now) × (place.new ≡ payload.now) }
 {
-    bytes::copy(payload, place);
+    place.copy_from_slice(payload);
     crc::check(payload)
 }
 
