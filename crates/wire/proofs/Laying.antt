@@ -27,6 +27,6 @@ laid h payload (o ∷ out) lo hi fits =
     let k : suc n + 2 ≡ n + 3 = omega arith in
     let room : suc n + 2 ≤ suc (length out) = omega arith in
     let e : n + 1 - 1 ≡ n = omega arith in
-    rw (e, add-one, add-one)
+    rw (e, add-one n, add-one (suc n))
     (store_behind (h ∷ payload) (lo ∷ hi ∷ []) (o ∷ out) room
     ∙ ap (λ (m : ℕ). (h ∷ (payload ++ (lo ∷ hi ∷ []))) ++ drop m (o ∷ out)) k)

@@ -1,0 +1,68 @@
+-- Each arm names its number, and where no arm does there is none, or 0.
+use Rattle.std.proofs.Common.{sym, ap, rules}
+use Rattle.wire.specs.Pid.{kind_of}
+use Rattle.wire.proofs.pid.named.Goals as goal
+use Rattle.wire.proofs.Pids.{left_reserved}
+
+pub returns-in-1 : goal.returns-in-1
+unfolding kind_of
+returns-in-1 c = sym (ap kind_of c.in-1.is)
+
+pub returns-in-2 : goal.returns-in-2
+unfolding kind_of
+returns-in-2 c = sym (ap kind_of c.in-2.is)
+
+pub returns-in-3 : goal.returns-in-3
+unfolding kind_of
+returns-in-3 c = sym (ap kind_of c.in-3.is)
+
+pub returns-in-4 : goal.returns-in-4
+unfolding kind_of
+returns-in-4 c = sym (ap kind_of c.in-4.is)
+
+pub returns-in-5 : goal.returns-in-5
+unfolding kind_of
+returns-in-5 c = sym (ap kind_of c.in-5.is)
+
+pub returns-in-6 : goal.returns-in-6
+unfolding kind_of
+returns-in-6 c = sym (ap kind_of c.in-6.is)
+
+pub returns-in-7 : goal.returns-in-7
+unfolding kind_of
+returns-in-7 c = sym (ap kind_of c.in-7.is)
+
+pub returns-in-8 : goal.returns-in-8
+unfolding kind_of
+returns-in-8 c = sym (ap kind_of c.in-8.is)
+
+pub returns-in-9 : goal.returns-in-9
+unfolding kind_of
+returns-in-9 c = sym (ap kind_of c.in-9.is)
+
+pub returns-in-10 : goal.returns-in-10
+unfolding kind_of
+returns-in-10 c = sym (ap kind_of c.in-10.is)
+
+pub returns-in-11 : goal.returns-in-11
+unfolding kind_of
+returns-in-11 c = sym (ap kind_of c.in-11.is)
+
+pub returns-in-12 : goal.returns-in-12
+unfolding kind_of
+returns-in-12 c = sym (ap kind_of c.in-12.is)
+
+pub returns-in-13 : goal.returns-in-13
+unfolding kind_of
+returns-in-13 c = sym (ap kind_of c.in-13.is)
+
+pub returns-in-14 : goal.returns-in-14
+unfolding kind_of
+returns-in-14 c = sym (ap kind_of c.in-14.is)
+
+pub returns-in-15 : goal.returns-in-15
+unfolding kind_of
+returns-in-15 c = sym (ap kind_of c.in-15.is)
+
+pub returns-in_default : goal.returns-in_default
+returns-in_default c = left_reserved c.args.number (search rules)
