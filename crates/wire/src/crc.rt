@@ -31,6 +31,7 @@ fn byte(r0: u16, b: u8) -> u16
 }
 
 // Each byte of a stretch.
+#[tactic(auto, using(crate::proofs::Register::byte_next, crate::proofs::Register::byte_end))]
 fn each(r0: u16, p: &[u8]) -> u16
     ensures { result ≡ after g16 r0 (sent p.now) }
 {
@@ -59,6 +60,7 @@ fn settle(wide: u64) -> u16
 }
 
 // 64 zero bits more, and the register stays wide: x^64 is x^18 + x^8 + x^3 modulo the generator.
+#[tactic(auto, using(crate::proofs::Wide::onward))]
 fn onward(wide: u64) -> u64
     ensures { settled result ≡ after g16 (settled wide) (bits 64 0) }
 {
@@ -84,6 +86,7 @@ fn eight(p: &[u8], i: usize) -> u64
 }
 
 // The wide register after the whole eights of a stretch; the one that it begins with stands for all ones.
+#[tactic(auto, using(crate::proofs::Wide::eight_more))]
 fn eights(p: &[u8]) -> u64
     ensures { settled result ≡ after g16 65535 (sent (take (length p.now / 8 * 8) p.now)) }
 {
@@ -98,6 +101,7 @@ fn eights(p: &[u8]) -> u64
 }
 
 // Below eight bytes there is no whole eight.
+#[tactic(auto, unfolding(crate::specs::Crc::check), using(crate::proofs::Register::after_parts))]
 pub fn check(p: &[u8]) -> u16
     ensures { result ≡ crc16 p.now }
 {

@@ -22,6 +22,7 @@ pub enum Written {
 }
 
 // The number of a data PID.
+#[tactic(auto, unfolding(crate::specs::Pid::kind_of))]
 fn is_data(number: u32) -> bool
     ensures { result ≡ is_data (kind_of number) }
 {
@@ -32,6 +33,7 @@ fn is_data(number: u32) -> bool
 }
 
 // A checked data PID.
+#[tactic(auto, using(crate::proofs::Pids::checked_kind))]
 fn is_data_pid(byte: u8) -> bool
     ensures { result ≡ is_data_pid (pid_of byte) }
 {
@@ -42,6 +44,7 @@ fn is_data_pid(byte: u8) -> bool
 }
 
 // Between the PID byte and the CRC16.
+#[tactic(auto, unfolding(crate::specs::Data::stretch))]
 fn cut(bytes: &[u8]) -> &[u8]
     requires { 3 ≤ length bytes.now }
     ensures { (result.now ≡ stretch bytes.now) × (result.ref_ptr ≡ behind bytes.entry.ref_ptr) }
@@ -49,6 +52,7 @@ fn cut(bytes: &[u8]) -> &[u8]
     &bytes[1..bytes.len() - 2]
 }
 
+#[tactic(auto, unfolding(crate::specs::Data::right_check, crate::specs::Data::check_sent))]
 fn is_right(bytes: &[u8]) -> bool
     requires { 3 ≤ length bytes.now }
     ensures { result ≡ right_check bytes.now }
@@ -58,6 +62,7 @@ fn is_right(bytes: &[u8]) -> bool
 }
 
 // The tests in the order in which R-3 tells them apart.
+#[tactic(auto, unfolding(crate::specs::Data::verdict_of))]
 fn judge(bytes: &[u8]) -> Verdict
     ensures { result ≡ verdict_of bytes.now }
 {
@@ -95,6 +100,7 @@ pub fn read<'a>(bytes: &'a [u8], verdict: &mut u8) -> &'a [u8]
 }
 
 // The verdict of a number that `read` laid down.
+#[tactic(auto, unfolding(crate::specs::Data::verdict_from))]
 pub fn numbered(number: u8) -> Verdict
     ensures { result ≡ verdict_from number }
 {
@@ -116,6 +122,7 @@ fn lay(payload: &[u8], place: &mut [u8]) -> u16
 }
 
 // The packet from the first byte.
+#[tactic(auto, unfolding(crate::specs::Data::packet, crate::specs::Pid::pid_byte), using(crate::proofs::Laying::laid))]
 fn fill(pid: u8, payload: &[u8], buffer: &mut [u8])
     requires { (pid < 16) × (length payload.now + 3 ≤ length buffer.old) }
     ensures { buffer.new ≡ packet pid payload.now ++ drop (length payload.now + 3) buffer.old }
@@ -128,6 +135,7 @@ fn fill(pid: u8, payload: &[u8], buffer: &mut [u8])
 }
 
 // Writes the data packet of a PID and a payload.
+#[tactic(auto, unfolding(crate::specs::Data::write_refusal, crate::specs::Data::write_of, crate::specs::Data::buffer_after))]
 pub fn write(pid: u32, payload: &[u8], buffer: &mut [u8]) -> Written
     ensures { DataWritten pid payload.now buffer.old result buffer.new }
 {

@@ -30,6 +30,7 @@ pub enum Pid {
 }
 
 // The kind of that number: a PID's low four bits are one of the sixteen, and any greater number names none.
+#[tactic(auto, unfolding(crate::specs::Pid::kind_of))]
 pub fn named(number: u32) -> Kind
     ensures { result ≡ kind_of number }
 {
@@ -54,6 +55,7 @@ pub fn named(number: u32) -> Kind
 }
 
 // A PID byte: its kind, if the high four bits are the complement of the low four.
+#[tactic(auto, unfolding(crate::specs::Pid::pid_of))]
 pub fn read(byte: u8) -> Pid
     ensures { result ≡ pid_of byte }
 {

@@ -113,6 +113,7 @@ pub(crate) fn join(lo: u8, hi: u8) -> u16
 }
 
 // A token: three bytes and the right check.
+#[tactic(auto, unfolding(crate::specs::Token::token_of))]
 pub fn read(packet: &[u8]) -> Token
     ensures { result ≡ token_of packet.now }
 {
