@@ -1,4 +1,5 @@
 pub mod Appending
+pub mod Decimals
 pub mod Keeping
 pub mod Kept
 pub mod Laying

@@ -1,6 +1,6 @@
 -- The text of an answer, which grows from the front of a buffer.
 use Rattle.std.specs.Prelude.{ℕ, ◌+◌, ◌≤◌, ◌<◌, ◌≡◌, cond, List, [], ◌∷◌, ◌++◌, eqb, length, take, drop}
-use Rattle.io.specs.Digits.{last_digits, IsDigitCount}
+use Rattle.script.specs.Decimal.{last_digits, IsDigitCount}
 use Rattle.hexline.specs.Digits.{spelt_of}
 
 -- bytes laid behind the first `at` of the text, and where they end; where there is no room the text stays

@@ -20,16 +20,15 @@ pub fn put(text: &mut [u8], at: usize, bytes: &[u8]) -> usize
         return at;
     }
     let end = at + bytes.len();
-    bytes::copy(bytes, &mut text[at..end]);
+    text[at..end].copy_from_slice(bytes);
     end
 }
 
 pub fn put_number(text: &mut [u8], at: usize, n: u64) -> usize
     ensures { Numbered text.old at n result text.new }
 {
-    let mut digits = [0u8; 20];
-    let count = io::decimal(n, &mut digits);
-    put(text, at, &digits[..count])
+    let mut digits = itoa::Buffer::new();
+    put(text, at, digits.format(n).as_bytes())
 }
 
 // The digits of bytes, and "-" for none.
