@@ -7,9 +7,9 @@ use mathlib.Core.Bool.{Bool, true, false}
 use mathlib.Core.List.{List, [], ◌∷◌, ◌++◌, append_assoc}
 use lib.Dec.{eqb}
 use lib.ListN.{length, get_or, take, drop, length-drop}
-use lib.Seq.{take-length, take-suc, take-add, take_all, get_or-drop}
+use lib.Seq.{slice, take-length, take-suc, take-add, take_all, get_or-drop}
 use borrow.Author.Tests.{eqb-true}
-use Rattle.bytes.specs.Bytes.{slice, index_of, index_after}
+use Rattle.script.specs.Scan.{index_of, index_after}
 use Rattle.script.specs.Holding.{unspaced}
 
 unspaced_before : (list : List ℕ) → unspaced (take (index_of 32 list) list) ≡ true
@@ -34,7 +34,6 @@ space_at (c ∷ rest) h = pick (eqb c 32) refl h (space_at rest)
 -- a loop has come to `at`, and the next space stands at `end`
 module _ (part : List ℕ) (at end : ℕ) (within : at ≤ length part) (found : end ≡ at + index_of 32 (slice at (length part) part)) where
   size : end - at ≡ index_of 32 (drop at part)
-  unfolding slice
   size = let ahead : end ≡ at + index_of 32 (drop at part) = rw (take-length part) at found in omega arith
 
   pub run_unspaced : unspaced (take (end - at) (drop at part)) ≡ true

@@ -7,8 +7,8 @@ use mathlib.Core.Bool.{Bool, true, false, ◌&&◌, cond}
 use mathlib.Core.List.{List, [], ◌∷◌}
 use lib.Dec.{eqb}
 use lib.ListN.{length, get_or, take, drop, drop_of_length-le, length-drop}
-use lib.Seq.{drop-cons, take-length, drop-drop}
-use Rattle.bytes.specs.Bytes.{slice, index_of, index_after}
+use lib.Seq.{slice, drop-cons, take-length, drop-drop}
+use Rattle.script.specs.Scan.{index_of, index_after}
 use Rattle.script.specs.Words.{in_front, words_of, nth, word_at, same, place_of}
 
 -- ---- how many
@@ -77,7 +77,6 @@ no_word k (c ∷ rest) h = pick (eqb c 32) h (no_word k rest)
 module _ (line : List ℕ) (index i at end : ℕ) (within : at ≤ length line)
     (found : end ≡ at + index_of 32 (slice at (length line) line)) (inv : word_at index line ≡ word_at (index - i) (drop at line)) where
   ahead : end ≡ at + index_of 32 (drop at line)
-  unfolding slice
   ahead = rw (take-length line) at found
 
   pub word_turn : i < index → end < length line → word_at index line ≡ word_at (index - (i + 1)) (drop (end + 1) line)

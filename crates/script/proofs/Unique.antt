@@ -8,7 +8,7 @@ use mathlib.Core.Path.{◌≡◌, sym, ap, subst, ◌∙◌}
 use mathlib.Core.Bool.{Bool, cond}
 use mathlib.Core.List.{List, []}
 use lib.Dec.{eqb}
-use lib.ListN.{length, take}
+use lib.ListN.{length, take, drop}
 use Rattle.io.specs.Digits.{last_digits, IsDigitCount}
 use Rattle.laws.proofs.Once.{Once, once}
 use Rattle.hexline.specs.Line.{is_good, bytes_of}
@@ -16,6 +16,7 @@ use Rattle.hexline.specs.Line.{kept_of as bytes_kept}
 use Rattle.hexline.specs.declared.line.Line.{Line}
 use Rattle.hexline.proofs.Unique.{begin_once as hex_begin_once}
 use Rattle.script.specs.Numbers.{number_of}
+use Rattle.script.specs.Scan.{index_of}
 use Rattle.script.specs.Words.{words_of, word_at, same, place_of}
 use Rattle.script.specs.Intake.{last_of, kept_of, is_bytes, Stands}
 use Rattle.script.specs.Text.{Laid, Numbered, shown_of}
@@ -35,6 +36,10 @@ word_once line index = once _
 
 pub is_once : (word name : List ℕ) → Once (same word name)
 is_once word name = once _
+
+-- between the two places
+pub find_once : (text : List ℕ) (from to byte : ℕ) → Once (from + index_of byte (drop from (take to text)))
+find_once text from to byte = once _
 
 pub place_once : (sought names : List ℕ) → Once (place_of sought (words_of names))
 place_once sought names = once _

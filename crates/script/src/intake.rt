@@ -8,6 +8,7 @@ ghost use Rattle.script.specs.Intake.{shortened, last_of, kept_of, is_bytes, Sta
 ghost use Rattle.script.specs.Holding.{Holds, unspaced};
 
 use crate::number;
+use crate::scan::find;
 use hexline::Line;
 
 // Words are kept up to sixteen characters; no name or number in range has so many.
@@ -111,7 +112,7 @@ pub fn taken(intake: Intake, kept: &mut [u8; 136], buffer: &mut [u8], part: &[u8
     let mut now = intake;
     let mut at = 0;
     while at < part.len() {
-        let end = bytes::scan::find(part, at, part.len(), b' ');
+        let end = find(part, at, part.len(), b' ');
         now = spoken(now, kept, buffer, &part[at..end]);
         if end < part.len() {
             now = parted(now, kept);

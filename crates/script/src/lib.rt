@@ -3,10 +3,12 @@
 
 mod intake;
 mod number;
+mod scan;
 mod text;
 mod words;
 
 pub use intake::{Intake, begin, bytes, is_bytes, is_empty, line, taken};
 pub use number::{Number, as_number};
+pub use scan::find;
 pub use text::{put, put_bytes, put_number};
 pub use words::{count, is, place, word};

@@ -2,6 +2,8 @@
 ghost use Rattle.std.specs.Prelude.{◌≡◌, cond, ◌≤◌, eqb, length};
 ghost use Rattle.script.specs.Words.{words_of, word_at, same, place_of};
 
+use crate::scan::find;
+
 // How many words more a character makes: one where it is a space.
 fn parts(c: u8) -> usize
     ensures value { result ≡ cond (eqb c 32) 1 0 }
@@ -29,14 +31,14 @@ pub fn word(line: &[u8], index: usize) -> &[u8]
     let mut at = 0;
     let mut i = 0;
     while i < index {
-        let end = bytes::scan::find(line, at, line.len(), b' ');
+        let end = find(line, at, line.len(), b' ');
         if end == line.len() {
             return &line[..0];
         }
         at = end + 1;
         i += 1;
     }
-    let end = bytes::scan::find(line, at, line.len(), b' ');
+    let end = find(line, at, line.len(), b' ');
     &line[at..end]
 }
 
