@@ -6,7 +6,7 @@ mod desk;
 mod output;
 mod printed;
 
-ghost use Rattle.std.specs.Prelude.{List, ℕ, ◌≤◌, length};
+ghost use Rattle.std.specs.Prelude.{List, ℕ};
 ghost use Rattle.hexline.specs.Line.{Stands};
 ghost use Rattle.listing.specs.Listing.{Answered};
 
@@ -35,24 +35,12 @@ fn answered(rt: &impl Print, d: Desk, memory: &mut [u8; 256], packet: &[u8; 1028
     )
 }
 
-// Where the line that begins at this place ends: at the next line feed, or behind the text where there is none.
-fn line_end(text: &[u8], at: usize) -> usize
-    requires { at ≤ length text.now }
-    ensures from { at ≤ result }
-    ensures within { result ≤ length text.now }
-{
-    match text[at..].iter().position(|c| *c == b'\n') {
-        Some(n) => at + n,
-        None => text.len(),
-    }
-}
-
 // Every line that ends in this text is answered; what follows the last is kept for the text to come.
 fn lines(rt: &impl Print, d: Desk, memory: &mut [u8; 256], packet: &mut [u8; 1028], text: &[u8]) -> Desk {
     let mut now = d;
     let mut at = 0;
     while at < text.len() {
-        let end = line_end(text, at);
+        let end = script::find(text, at, text.len(), b'\n');
         now = desk::taken(now, packet, &text[at..end]);
         if end < text.len() {
             now = answered(rt, now, memory, packet);

@@ -66,18 +66,6 @@ fn answered(
     next(after, written(rt, &mut text, turn.said))
 }
 
-// Where the line that begins at this place ends: at the next line feed, or behind the text where there is none.
-fn line_end(text: &[u8], at: usize) -> usize
-    requires { at ≤ length text.now }
-    ensures from { at ≤ result }
-    ensures within { result ≤ length text.now }
-{
-    match text[at..].iter().position(|c| *c == b'\n') {
-        Some(n) => at + n,
-        None => text.len(),
-    }
-}
-
 // Every line that ends in this text is answered; what follows the last is kept for the text to come.
 fn lines(
     rt: &impl Print,
@@ -93,7 +81,7 @@ fn lines(
     let mut now = d;
     let mut at = 0;
     while at < text.len() {
-        let end = line_end(text, at);
+        let end = script::find(text, at, text.len(), b'\n');
         now = taken(now, kept, buffer, &text[at..end]);
         if end < text.len() {
             now = answered(rt, now, memory, reply, kept, buffer);
