@@ -18,6 +18,7 @@ pub struct Outcome {
 }
 
 // A refused call returns the state as it was.
+#[tactic(auto, unfolding(crate::specs::Answers::settled))]
 pub fn settle(refusal: u8, before: Core, after: Core, number: u32) -> Outcome
     ensures { result ≡ settled refusal before after number }
 {

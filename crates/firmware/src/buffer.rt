@@ -7,6 +7,7 @@ use crate::answer::Outcome;
 use crate::{answer, record};
 use state::{Core, Descriptor, range, sound, spans, update};
 
+#[tactic(auto, unfolding(crate::specs::Buffers::shares_byte))]
 fn shares_byte(core: Core, index: usize, second: bool, base: u32, length: u32) -> bool
     ensures { result ≡ shares_byte core index second base length }
 {
@@ -55,6 +56,7 @@ fn arm_refusal(core: Core, index: usize, buffer: u32, base: u32, length: u32) ->
     0
 }
 
+#[tactic(auto, unfolding(crate::specs::Buffers::arm_of))]
 pub fn arm(core: Core, index: usize, buffer: u32, base: u32, length: u32) -> Outcome
     ensures { result ≡ arm_of core index buffer base length }
 {
@@ -97,6 +99,7 @@ fn disarm_refusal(core: Core, index: usize, buffer: u32) -> u8
 }
 
 // Returns the done count.
+#[tactic(auto, unfolding(crate::specs::Buffers::disarm_of))]
 pub fn disarm(core: Core, index: usize, buffer: u32) -> Outcome
     ensures { result ≡ disarm_of core index buffer }
 {

@@ -16,6 +16,7 @@ fn start_refusal(memory_size: u32) -> u8
     0
 }
 
+#[tactic(auto, unfolding(crate::specs::Device::start_of))]
 pub fn start(memory_size: u32, speed: Speed) -> Outcome
     ensures { result ≡ start_of memory_size speed }
 {
@@ -36,6 +37,7 @@ fn address_refusal(core: Core, address: u32) -> u8
     0
 }
 
+#[tactic(auto, unfolding(crate::specs::Device::set_address_of))]
 pub fn set_address(core: Core, address: u32) -> Outcome
     ensures { result ≡ set_address_of core address }
 {
@@ -61,6 +63,7 @@ fn after_reset(core: Core, speed: Speed) -> Core
     update::with_address(marked, core.address)
 }
 
+#[tactic(auto, unfolding(crate::specs::Device::bus_reset_of))]
 pub fn bus_reset(core: Core, speed: Speed) -> Outcome
     ensures { result ≡ bus_reset_of core speed }
 {
@@ -68,6 +71,7 @@ pub fn bus_reset(core: Core, speed: Speed) -> Outcome
 }
 
 // Returns the system events as a number and clears them.
+#[tactic(auto, unfolding(crate::specs::Device::system_events_of))]
 pub fn system_events(core: Core) -> Outcome
     ensures { result ≡ system_events_of core }
 {

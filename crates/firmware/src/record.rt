@@ -22,6 +22,7 @@ pub fn waits_on(wait: Wait, index: usize) -> bool
     }
 }
 
+#[tactic(auto, unfolding(crate::specs::Records::in_use))]
 fn is_in_use(core: Core, index: usize) -> bool
     ensures { result ≡ in_use core index }
 {
@@ -47,6 +48,7 @@ fn is_beside_all(r: Record, records: [Record; 16]) -> bool
     true
 }
 
+#[tactic(auto, unfolding(crate::specs::Records::served_elsewhere))]
 fn is_served_elsewhere(core: Core, index: usize, endpoint: Endpoint) -> bool
     ensures { result ≡ served_elsewhere core index endpoint }
 {
@@ -100,6 +102,7 @@ fn configured(condition: Condition, endpoint: Endpoint) -> Record
     }
 }
 
+#[tactic(auto, unfolding(crate::specs::Records::configure_of))]
 pub fn configure(
     core: Core,
     index: usize,
@@ -143,6 +146,7 @@ fn halt_refusal(core: Core, index: usize) -> u8
     0
 }
 
+#[tactic(auto, unfolding(crate::specs::Records::set_halt_of))]
 pub fn set_halt(core: Core, index: usize) -> Outcome
     ensures { result ≡ set_halt_of core index }
 {
@@ -151,6 +155,7 @@ pub fn set_halt(core: Core, index: usize) -> Outcome
     answer::settle(refusal, core, update::with_record(core, index, halted), 0)
 }
 
+#[tactic(auto, unfolding(crate::specs::Records::clear_halt_of))]
 pub fn clear_halt(core: Core, index: usize) -> Outcome
     ensures { result ≡ clear_halt_of core index }
 {
@@ -173,6 +178,7 @@ fn index_refusal(core: Core, index: usize) -> u8
 }
 
 // Returns the record's events as a number and clears them.
+#[tactic(auto, unfolding(crate::specs::Records::record_events_of))]
 pub fn record_events(core: Core, index: usize) -> Outcome
     ensures { result ≡ record_events_of core index }
 {
