@@ -9,7 +9,6 @@ use mathlib.Core.List.{List}
 use lib.ListN.{length}
 use lib.Seq.{set-get_or}
 use Rattle.wire.specs.declared.pid.Kind as pid
-use Rattle.wire.specs.declared.token.Token.TheVariants.{Good}
 use Rattle.wire.specs.declared.data.Verdict.{Verdict}
 use Rattle.wire.specs.declared.data.Verdict.TheVariants as verdict
 use Rattle.wire.specs.Data.{verdict_of, payload_of}
@@ -24,11 +23,10 @@ use Rattle.state.specs.declared.Core.{Core}
 use Rattle.state.specs.Update.{off_record, buffer_of, with_records, with_wait, record_at}
 use Rattle.state.specs.Ranges.{is_control, is_armed, is_unused}
 use Rattle.bus.specs.declared.active.Direction.{Direction}
-use Rattle.bus.specs.declared.active.Direction.TheVariants.{Out}
 use Rattle.bus.specs.declared.token.Asks.TheVariants as asks
 use Rattle.bus.specs.declared.turn.Store.TheVariants.{Nowhere}
 use Rattle.bus.specs.declared.turn.Says.{Says}
-use Rattle.bus.specs.declared.turn.Says.TheVariants.{Silence, Ack, Data}
+use Rattle.bus.specs.declared.turn.Says.TheVariants.{Silence, Ack}
 use Rattle.bus.specs.declared.turn.Turn.{Turn}
 use Rattle.bus.specs.declared.turn.Step.{Step}
 use Rattle.bus.specs.Turn.{saying, placed}

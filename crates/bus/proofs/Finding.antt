@@ -10,7 +10,6 @@ use Rattle.laws.proofs.Bools.{both, dec_eq}
 use Rattle.laws.proofs.Lists.{FirstAt, matched}
 use Rattle.laws.proofs.Pairs.{pair_at}
 use Rattle.state.specs.declared.Kind.{Kind}
-use Rattle.state.specs.declared.Kind.TheVariants as kind
 use Rattle.state.specs.declared.Record.{Record}
 use Rattle.state.specs.declared.Core.{Core}
 use Rattle.state.specs.Update.{off_record, record_at}

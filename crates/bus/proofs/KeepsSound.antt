@@ -31,7 +31,6 @@ use Rattle.state.proofs.Updates.{record_given}
 use Rattle.bus.specs.declared.active.Direction.TheVariants.{Out, In}
 use Rattle.bus.specs.declared.token.Asks.{Asks}
 use Rattle.bus.specs.declared.token.Asks.TheVariants as asks
-use Rattle.bus.specs.declared.idle.Met.TheVariants.{Nothing}
 use Rattle.bus.specs.declared.turn.Says.{Says}
 use Rattle.bus.specs.declared.turn.Says.TheVariants.{Silence, Ack, Nak, Stall}
 use Rattle.bus.specs.declared.turn.Turn.{Turn}

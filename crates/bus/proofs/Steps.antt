@@ -7,11 +7,9 @@ use Rattle.wire.specs.declared.data.Verdict.{Verdict}
 use Rattle.state.specs.declared.Speed.{Speed}
 use Rattle.state.specs.declared.Record.{Record}
 use Rattle.state.specs.declared.Stage.{Stage}
-use Rattle.state.specs.declared.Wait.TheVariants as wait
 use Rattle.state.specs.declared.Core.{Core}
 use Rattle.state.specs.Update.{record_at}
 use Rattle.state.specs.Sound.{Sound}
-use Rattle.bus.specs.declared.active.Direction.TheVariants.{Out, In}
 use Rattle.bus.specs.declared.token.Asks.{Asks}
 use Rattle.bus.specs.declared.token.Asks.TheVariants as asks
 use Rattle.bus.specs.declared.turn.Store.TheVariants.{Nowhere}

@@ -5,12 +5,10 @@ use mathlib.Core.Path.{◌≡◌, refl, sym, subst}
 use mathlib.Core.Bool.{Bool, true, false}
 use mathlib.Core.List.{List}
 use lib.ListN.{length, drop, length-take}
-use Rattle.wire.specs.declared.token.Token.TheVariants.{Good}
 use Rattle.wire.specs.declared.data.Verdict.{Verdict}
 use Rattle.wire.specs.declared.data.Verdict.TheVariants as verdict
 use Rattle.wire.specs.Data.{stretch, verdict_of, payload_by, payload_of}
 use Rattle.wire.proofs.Reading.{passed}
-use Rattle.state.specs.declared.Kind.TheVariants as kind
 use Rattle.state.specs.declared.Record.{Record}
 use Rattle.state.specs.declared.Stage.{Stage}
 use Rattle.state.specs.declared.Stage.TheVariants as stage
@@ -24,7 +22,6 @@ use Rattle.state.proofs.Kept.{buffer_sound}
 use Rattle.bus.specs.declared.active.Direction.TheVariants.{Out, In}
 use Rattle.bus.specs.declared.token.Asks.{Asks}
 use Rattle.bus.specs.declared.token.Asks.TheVariants as asks
-use Rattle.bus.specs.declared.idle.Met.TheVariants.{Nothing}
 use Rattle.bus.specs.declared.turn.Store.{Store}
 use Rattle.bus.specs.declared.turn.Says.{Says}
 use Rattle.bus.specs.declared.turn.Turn.{Turn}

@@ -1,7 +1,7 @@
 -- Each refusal of each call is given exactly when its row holds and no earlier one does, and a refused call answers the state that it was given
 -- and no other number. One law, and a line for each call. Assumes nothing.
 use Prim.Native.Nat.{ℕ}
-use mathlib.Core.Path.{◌≡◌, refl, sym, ◌∙◌, ap}
+use mathlib.Core.Path.{◌≡◌, refl, sym, ◌∙◌}
 use mathlib.Core.Bool.{Bool, true, false, cond}
 use mathlib.Core.List.{List, []}
 use lib.Dec.{eqb}

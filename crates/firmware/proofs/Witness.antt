@@ -1,16 +1,14 @@
 -- States that the theorems speak of: calls that are accepted one after the other from a start, so that sound states with live records, armed
 -- spans and a wait exist. Assumes nothing.
-use Prim.Native.Nat.{ℕ}
 use mathlib.Core.Path.{◌≡◌, refl}
 use mathlib.Core.Bool.{true, false}
-use Rattle.state.specs.declared.Speed.TheVariants.{Full, High}
+use Rattle.state.specs.declared.Speed.TheVariants.{Full}
 use Rattle.state.specs.declared.Condition.TheVariants.{Normal}
 use Rattle.state.specs.declared.Kind.TheVariants as kind
 use Rattle.state.specs.declared.Transfer.TheVariants as transfer
 use Rattle.state.specs.declared.Stage.TheVariants.{Setup}
 use Rattle.state.specs.declared.Wait.TheVariants.{Data, Acknowledge}
 use Rattle.state.specs.declared.Core.{Core}
-use Rattle.state.specs.Events.{record_bits}
 use Rattle.state.specs.Update.{with_wait}
 use Rattle.state.specs.Ranges.{endpoint_fits, misplaced, mark_fits, live_fits, is_zero, record_fits}
 use Rattle.state.specs.Served.{beside}

@@ -1,7 +1,6 @@
 -- The calls on one buffer: arm and disarm.
 use Rattle.std.specs.Prelude.{ℕ, Bool, false, not, List, [], ◌∷◌, ltb, eqb, set}
 use Rattle.laws.specs.Lists.{all}
-use Rattle.state.specs.declared.Descriptor.{Descriptor}
 use Rattle.state.specs.declared.Descriptor.TheVariants.{Unallocated, Armed}
 use Rattle.state.specs.declared.Core.{Core}
 use Rattle.state.specs.Update.{buffer_of, with_buffer, record_at, with_record}
