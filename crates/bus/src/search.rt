@@ -12,6 +12,7 @@ pub enum Found {
     Nowhere,
 }
 
+#[tactic(auto, unfolding(crate::specs::Search::served_by))]
 fn is_served_by(number: u32, direction: Direction, r: Record) -> bool
     ensures { result ≡ served_by number direction r }
 {
