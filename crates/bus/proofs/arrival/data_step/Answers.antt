@@ -6,7 +6,6 @@ use Rattle.state.specs.Update.{record_at}
 use Rattle.bus.specs.declared.turn.Turn.{Turn}
 use Rattle.bus.specs.Turn.{stored, placed}
 use Rattle.bus.specs.Arrival.{data_step}
-use Rattle.bus.specs.Data.{data_turn}
 use Rattle.bus.proofs.Serving.{awaiting}
 use Rattle.bus.proofs.Steps.{same_turn}
 use Rattle.bus.proofs.Within.{payload_short, roomy, store_within}

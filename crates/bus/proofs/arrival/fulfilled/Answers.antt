@@ -1,9 +1,7 @@
 -- Each arm is the definition's.
-use Rattle.std.proofs.Common.{◌∙◌, sym, ap}
+use Rattle.std.proofs.Common.{sym, ap}
 use Rattle.wire.specs.Data.{payload_of}
-use Rattle.state.specs.declared.Record.{Record}
 use Rattle.state.specs.declared.Wait.{Wait}
-use Rattle.bus.specs.declared.turn.Step.{Step}
 use Rattle.bus.specs.Turn.{stored}
 use Rattle.bus.specs.Active.{acknowledged}
 use Rattle.bus.specs.Arrival.{awaited_step, fulfilled}
