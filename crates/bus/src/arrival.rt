@@ -131,7 +131,6 @@ fn fulfilled(core: Core, memory: &mut [u8], packet: &[u8]) -> Step
     }
 }
 
-#[tactic(auto, unfolding(crate::specs::Arrival::packet_step))]
 pub(crate) fn arrives(core: Core, memory: &mut [u8], packet: &[u8]) -> Step
     requires { Ready core (length memory.old) }
     ensures value { result ≡ packet_step core packet.now }

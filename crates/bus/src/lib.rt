@@ -52,7 +52,6 @@ fn lend_refusal(sound: bool, size: u32, memory: usize, reply: usize) -> u8
     0
 }
 
-#[tactic(auto, unfolding(crate::specs::Calls::packet_of))]
 pub fn packet(core: Core, memory: &mut [u8], reply: &mut [u8], packet: &[u8]) -> Outcome
     ensures { Leaves (packet_of core memory.old reply.old packet.now) result memory.new reply.new }
 {
