@@ -32,6 +32,7 @@ pub(crate) fn serves(direction: Direction, kind: Kind) -> bool
     }
 }
 
+#[tactic(auto, unfolding(crate::specs::Active::chosen))]
 pub(crate) fn chosen(direction: Direction, r: Record) -> bool
     ensures { result ≡ chosen direction r }
 {
@@ -52,6 +53,7 @@ pub(crate) fn chosen_buffer(direction: Direction, r: Record) -> Descriptor
     update::buffer_of(r, chosen(direction, r))
 }
 
+#[tactic(auto, unfolding(crate::specs::Active::active))]
 pub(crate) fn is_active(direction: Direction, r: Record) -> bool
     ensures { result ≡ active direction r }
 {
@@ -129,6 +131,7 @@ fn used_event(second: bool) -> RecordEvent
     }
 }
 
+#[tactic(auto, unfolding(crate::specs::Active::used_up))]
 fn used_up(r: Record, second: bool) -> Record
     ensures { result ≡ used_up r second }
 {
@@ -142,6 +145,7 @@ fn used_up(r: Record, second: bool) -> Record
 }
 
 // The record after n bytes were stored in the buffer.
+#[tactic(auto, unfolding(crate::specs::Active::filled))]
 pub(crate) fn filled(r: Record, second: bool, n: u32) -> Record
     requires { Roomy r n }
     ensures { result ≡ filled r second n }
@@ -163,6 +167,7 @@ fn flipped_in(r: Record) -> Record
 }
 
 // The record after n bytes that were sent from the buffer are acknowledged.
+#[tactic(auto, unfolding(crate::specs::Active::acknowledged))]
 pub(crate) fn acknowledged(r: Record, second: bool, n: u32) -> Turn
     requires { Roomy r n }
     ensures { result ≡ acknowledged r second n }

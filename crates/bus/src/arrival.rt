@@ -12,6 +12,7 @@ use wire::pid;
 use wire::pid::Pid;
 
 // A checked data PID, whatever follows it.
+#[tactic(auto, unfolding(crate::specs::Arrival::is_data_first))]
 fn is_data_first(packet: &[u8]) -> bool
     ensures { result ≡ is_data_first packet.now }
 {
@@ -22,6 +23,7 @@ fn is_data_first(packet: &[u8]) -> bool
 }
 
 // ACK of one byte.
+#[tactic(auto, unfolding(crate::specs::Arrival::is_ack, wire::specs::Pid::pid_byte))]
 fn is_ack(packet: &[u8]) -> bool
     ensures { result ≡ is_ack packet.now }
 {
@@ -31,6 +33,7 @@ fn is_ack(packet: &[u8]) -> bool
     packet[0] == 210
 }
 
+#[tactic(auto, unfolding(crate::specs::Arrival::missed))]
 fn missed(core: Core, i: usize) -> Core
     ensures { result ≡ missed core i }
 {
@@ -58,6 +61,7 @@ fn store(place: Store, payload: &[u8], memory: &mut [u8])
     }
 }
 
+#[tactic(auto, unfolding(crate::specs::Arrival::data_step))]
 fn data_step(core: Core, i: usize, stage: Stage, memory: &mut [u8], packet: &[u8]) -> Step
     requires { Ready core (length memory.old) × Awaits core i stage }
     ensures value { result ≡ data_step core i stage packet.now }
@@ -75,6 +79,7 @@ fn data_step(core: Core, i: usize, stage: Stage, memory: &mut [u8], packet: &[u8
 }
 
 // The record whose wait ends: without a wait an index that no record has.
+#[tactic(auto, unfolding(crate::specs::Arrival::missed, crate::specs::Arrival::timed_out))]
 fn ending(wait: Wait) -> usize
     ensures { (core : Core) → length core.records ≡ 16 → core.wait ≡ wait → missed core result ≡ timed_out core }
 {
@@ -86,6 +91,7 @@ fn ending(wait: Wait) -> usize
 }
 
 // One call, whatever the wait: each would copy the core.
+#[tactic(auto, unfolding(crate::specs::Arrival::timed_out))]
 pub(crate) fn timed_out(core: Core) -> Core
     ensures { result ≡ timed_out core }
 {
@@ -104,6 +110,7 @@ fn is_awaited(wait: Wait, packet: &[u8]) -> bool
     }
 }
 
+#[tactic(auto, unfolding(crate::specs::Arrival::fulfilled))]
 fn fulfilled(core: Core, memory: &mut [u8], packet: &[u8]) -> Step
     requires { Ready core (length memory.old) }
     ensures value { result ≡ fulfilled core packet.now }

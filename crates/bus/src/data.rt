@@ -28,6 +28,7 @@ fn flipped_out(r: Record) -> Record
 }
 
 // Event 6 if below maximum.
+#[tactic(auto, unfolding(crate::specs::Data::marked))]
 fn marked(r: Record, n: u32) -> Record
     ensures { result ≡ marked r n }
 {
@@ -38,6 +39,7 @@ fn marked(r: Record, n: u32) -> Record
     r
 }
 
+#[tactic(auto, unfolding(crate::specs::Data::acceptance))]
 fn acceptance(speed: Speed, r: Record) -> Says
     ensures { result ≡ acceptance speed r }
 {
@@ -49,6 +51,7 @@ fn acceptance(speed: Speed, r: Record) -> Says
     Says::Ack
 }
 
+#[tactic(auto, unfolding(crate::specs::Data::taking, crate::specs::Data::taken))]
 fn taking(speed: Speed, r: Record, n: u32) -> Turn
     requires { Roomy r n }
     ensures { result ≡ taking speed r n }
@@ -64,6 +67,7 @@ fn taking(speed: Speed, r: Record, n: u32) -> Turn
     }
 }
 
+#[tactic(auto, unfolding(crate::specs::Data::after_out))]
 fn after_out(speed: Speed, r: Record, toggle: bool, n: u32) -> Turn
     requires { Roomy r n }
     ensures { result ≡ after_out speed r toggle n }
@@ -84,6 +88,7 @@ fn after_out(speed: Speed, r: Record, toggle: bool, n: u32) -> Turn
     taking(speed, r, n)
 }
 
+#[tactic(auto, unfolding(crate::specs::Data::setting_up))]
 fn setting_up(r: Record, n: u32) -> Turn
     requires { Roomy r n }
     ensures { result ≡ setting_up r n }
@@ -102,6 +107,7 @@ fn setting_up(r: Record, n: u32) -> Turn
     }
 }
 
+#[tactic(auto, unfolding(crate::specs::Data::after_setup))]
 fn after_setup(r: Record, toggle: bool, n: u32) -> Turn
     requires { Roomy r n }
     ensures { result ≡ after_setup r toggle n }

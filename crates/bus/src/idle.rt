@@ -104,6 +104,7 @@ fn by_kind(core: Core, kind: Kind, packet: &[u8]) -> Met
     }
 }
 
+#[tactic(auto, unfolding(crate::specs::Idle::meeting))]
 fn meeting(core: Core, packet: &[u8]) -> Met
     ensures { result ≡ meeting core packet.now }
 {
@@ -113,6 +114,7 @@ fn meeting(core: Core, packet: &[u8]) -> Met
     }
 }
 
+#[tactic(auto, unfolding(crate::specs::Idle::no_wait))]
 pub(crate) fn no_wait(core: Core, packet: &[u8]) -> Step
     ensures { result ≡ no_wait core packet.now }
 {

@@ -70,6 +70,7 @@ pub fn packet(core: Core, memory: &mut [u8], reply: &mut [u8], packet: &[u8]) ->
     Outcome { core: left, answer }
 }
 
+#[tactic(auto, unfolding(crate::specs::Calls::timeout_of))]
 pub fn timeout(core: Core, memory: &[u8], reply: &[u8]) -> Outcome
     ensures { result ≡ timeout_of core memory.now reply.now }
 {

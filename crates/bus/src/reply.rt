@@ -46,6 +46,7 @@ fn send_from(toggle: bool, from: usize, count: usize, memory: &[u8], reply: &mut
     send(toggle, &memory[from..end], reply)
 }
 
+#[tactic(auto, unfolding(wire::specs::Pid::pid_byte))]
 pub(crate) fn answered(says: Says, memory: &[u8], reply: &mut [u8]) -> Answer
     requires { (1027 ≤ length reply.old) × SaysWithin says (length memory.now) }
     ensures value { result ≡ answer_of says (length (said says memory.now)) }

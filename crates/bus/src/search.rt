@@ -12,6 +12,7 @@ pub enum Found {
     Nowhere,
 }
 
+#[tactic(auto, unfolding(crate::specs::Search::served_by))]
 fn is_served_by(number: u32, direction: Direction, r: Record) -> bool
     ensures { result ≡ served_by number direction r }
 {
@@ -22,6 +23,7 @@ fn is_served_by(number: u32, direction: Direction, r: Record) -> bool
 }
 
 // Stops at the match.
+#[tactic(auto, unfolding(crate::specs::Search::found_in))]
 pub(crate) fn find(number: u32, direction: Direction, core: Core) -> Found
     ensures { result ≡ found_in number direction core.records }
 {

@@ -59,6 +59,7 @@ fn on_out(i: usize, r: Record) -> Turn
     )
 }
 
+#[tactic(auto, unfolding(crate::specs::Tokens::on_setup))]
 fn on_setup(i: usize, r: Record) -> Turn
     ensures { result ≡ on_setup i r }
 {
@@ -76,6 +77,7 @@ fn on_setup(i: usize, r: Record) -> Turn
     turn::noting(r, RecordEvent::OutOfPlace)
 }
 
+#[tactic(auto, unfolding(crate::specs::Tokens::on_ping))]
 fn on_ping(r: Record) -> Turn
     ensures { result ≡ on_ping r }
 {
@@ -94,6 +96,7 @@ fn on_ping(r: Record) -> Turn
     turn::saying(r, Says::Nak)
 }
 
+#[tactic(auto, unfolding(crate::specs::Tokens::sending))]
 fn sending(i: usize, r: Record) -> Turn
     ensures { result ≡ sending i r }
 {
@@ -117,6 +120,7 @@ fn sending(i: usize, r: Record) -> Turn
     }
 }
 
+#[tactic(auto, unfolding(crate::specs::Tokens::on_in))]
 fn on_in(i: usize, r: Record) -> Turn
     ensures { result ≡ on_in i r }
 {
