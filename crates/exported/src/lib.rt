@@ -34,12 +34,7 @@ pub fn hnitbrek_read(packet: &[u8], verdict: &mut u8) -> usize
 }
 
 // Writes a data packet: lays down the refusal's number, 0 for none, and returns the packet's length, 0 where refused.
-pub fn hnitbrek_write(
-    pid: u32,
-    payload: &[u8],
-    buffer: &mut [u8],
-    refused: &mut u8,
-) -> usize
+pub fn hnitbrek_write(pid: u32, payload: &[u8], buffer: &mut [u8], refused: &mut u8) -> usize
     ensures value { result ≡ written (write_of pid payload.now buffer.old) }
     ensures laid { refused.new ≡ refusal (write_of pid payload.now buffer.old) }
     ensures left { buffer.new ≡ buffer_after pid payload.now buffer.old }

@@ -33,6 +33,7 @@ fn after(o: Outcome) -> Core
 }
 
 // At high speed a bulk maximum is 512, and at full speed it never is.
+#[tactic(auto, unfolding(crate::specs::Scene::speed_of))]
 fn speed_of(maximum: u32) -> Speed
     ensures { result ≡ speed_of maximum }
 {
@@ -70,6 +71,7 @@ fn armed(core: Core, index: usize, buffer: u32, base: u32, length: u32) -> Core
     after(firmware::arm(core, index, buffer, base, length))
 }
 
+#[tactic(auto, unfolding(crate::specs::Scene::records_of))]
 fn with_records(core: Core, maximum: u32) -> Core
     ensures { result ≡ records_of core maximum }
 {
@@ -79,6 +81,7 @@ fn with_records(core: Core, maximum: u32) -> Core
     live(both, INTERRUPT, Kind::In, Transfer::Interrupt, 2, 64)
 }
 
+#[tactic(auto, unfolding(crate::specs::Scene::spans_of))]
 fn with_spans(core: Core, maximum: u32) -> Core
     ensures { result ≡ spans_of core maximum }
 {
@@ -90,6 +93,7 @@ fn with_spans(core: Core, maximum: u32) -> Core
 }
 
 // A call that is refused, since the buffer is not used yet, leaves the state as it was.
+#[tactic(auto, unfolding(crate::specs::Scene::bulk_of))]
 pub fn with_bulk(core: Core, maximum: u32) -> Core
     ensures { result ≡ bulk_of core maximum }
 {
@@ -97,6 +101,7 @@ pub fn with_bulk(core: Core, maximum: u32) -> Core
     armed(out, IN, 0, IN_BASE, room(maximum))
 }
 
+#[tactic(auto, unfolding(crate::specs::Scene::set_up))]
 pub fn set_up(maximum: u32) -> Core
     ensures { result ≡ set_up maximum }
 {
