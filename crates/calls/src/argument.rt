@@ -55,6 +55,7 @@ pub fn number(line: &[u8], index: usize) -> Number
 }
 
 // A number that is at most this.
+#[tactic(auto, unfolding(crate::specs::Forms::at_most))]
 pub fn at_most(line: &[u8], index: usize, most: u32) -> Number
     ensures { result ≡ at_most most (number_of (word_at index line.now)) }
 {
@@ -68,6 +69,7 @@ pub fn at_most(line: &[u8], index: usize, most: u32) -> Number
 }
 
 // A number that is 0 or 1.
+#[tactic(auto, unfolding(crate::specs::Forms::bit_of))]
 pub fn as_bit(line: &[u8], index: usize) -> Bit
     ensures { result ≡ bit_of (number_of (word_at index line.now)) }
 {
@@ -81,6 +83,7 @@ pub fn as_bit(line: &[u8], index: usize) -> Bit
     }
 }
 
+#[tactic(auto, unfolding(crate::specs::Forms::speed_of, script::specs::Words::words_of))]
 pub fn speed(line: &[u8], index: usize) -> SpeedWord
     ensures { result ≡ speed_of (word_at index line.now) }
 {
@@ -91,6 +94,7 @@ pub fn speed(line: &[u8], index: usize) -> SpeedWord
     }
 }
 
+#[tactic(auto, unfolding(crate::specs::Forms::condition_of, script::specs::Words::words_of))]
 pub fn condition(line: &[u8], index: usize) -> ConditionWord
     ensures { result ≡ condition_of (word_at index line.now) }
 {
@@ -102,6 +106,7 @@ pub fn condition(line: &[u8], index: usize) -> ConditionWord
     }
 }
 
+#[tactic(auto, unfolding(crate::specs::Forms::kind_of, script::specs::Words::words_of))]
 pub fn kind(line: &[u8], index: usize) -> KindWord
     ensures { result ≡ kind_of (word_at index line.now) }
 {
@@ -113,6 +118,7 @@ pub fn kind(line: &[u8], index: usize) -> KindWord
     }
 }
 
+#[tactic(auto, unfolding(crate::specs::Forms::transfer_of, script::specs::Words::words_of))]
 pub fn transfer(line: &[u8], index: usize) -> TransferWord
     ensures { result ≡ transfer_of (word_at index line.now) }
 {

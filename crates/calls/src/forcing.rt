@@ -40,6 +40,7 @@ fn events(line: &[u8]) -> Line
     Line::Bad
 }
 
+#[tactic(auto, unfolding(script::specs::Words::words_of))]
 fn wait_data(line: &[u8]) -> Line
     ensures { result ≡ force_wait_data 3 (words_of line.now) }
 {
@@ -90,6 +91,7 @@ fn wait_acknowledge(line: &[u8]) -> Line
 }
 
 // The arms in the order of the names.
+#[tactic(auto, unfolding(script::specs::Words::words_of))]
 fn wait(line: &[u8]) -> Line
     ensures { result ≡ force_wait 2 (words_of line.now) }
 {
@@ -210,6 +212,7 @@ fn in_toggle(index: u32, line: &[u8]) -> Line
 }
 
 // The arms in the order of the names.
+#[tactic(auto, unfolding(script::specs::Words::words_of))]
 fn record(line: &[u8]) -> Line
     ensures { result ≡ force_record 2 (words_of line.now) }
 {
@@ -298,6 +301,7 @@ fn frame(line: &[u8]) -> Line
 }
 
 // The arms in the order of the names.
+#[tactic(auto, unfolding(script::specs::Words::words_of))]
 pub fn force(line: &[u8]) -> Line
     ensures { result ≡ force_form 1 (words_of line.now) }
 {

@@ -51,6 +51,7 @@ fn configure_live(index: u32, condition: Condition, line: &[u8]) -> Line
 }
 
 // To off no other argument stands.
+#[tactic(auto, unfolding(script::specs::Words::words_of))]
 fn configure(line: &[u8]) -> Line
     ensures { result ≡ configure_form 1 (words_of line.now) }
 {
@@ -247,6 +248,7 @@ fn fill(line: &[u8], given: bool) -> Line
 }
 
 // By the first word, the arms in the order of the names. `given` says whether the last word is bytes.
+#[tactic(auto, unfolding(script::specs::Words::words_of, crate::specs::Script::line_of))]
 pub fn read(line: &[u8], given: bool) -> Line
     ensures { result ≡ line_of line.now given }
 {
