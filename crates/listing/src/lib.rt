@@ -36,7 +36,13 @@ fn answered(rt: &impl Print, d: Desk, memory: &mut [u8; 256], packet: &[u8; 1028
 }
 
 // Every line that ends in this text is answered; what follows the last is kept for the text to come.
-fn lines(rt: &impl Print, d: Desk, memory: &mut [u8; 256], packet: &mut [u8; 1028], text: &[u8]) -> Desk {
+fn lines(
+    rt: &impl Print,
+    d: Desk,
+    memory: &mut [u8; 256],
+    packet: &mut [u8; 1028],
+    text: &[u8],
+) -> Desk {
     let mut now = d;
     let mut at = 0;
     while at < text.len() {
@@ -74,7 +80,12 @@ fn ended(rt: &impl Print, d: Desk, memory: &mut [u8; 256], packet: &[u8; 1028]) 
 }
 
 // One read, and each line that it completes. Lines are answered before the next read, which may wait for a host that waits for them.
-fn listen(rt: &(impl Input + Print), d: Desk, memory: &mut [u8; 256], packet: &mut [u8; 1028]) -> Desk {
+fn listen(
+    rt: &(impl Input + Print),
+    d: Desk,
+    memory: &mut [u8; 256],
+    packet: &mut [u8; 1028],
+) -> Desk {
     let mut text = [0u8; 4096];
     match rt.reader().read(&mut text) {
         Ok(0) => ended(rt, d, memory, packet),

@@ -77,7 +77,14 @@ fn recorded(rt: &impl Print, o: Output, original: u64, bytes: &[u8]) -> Output
 }
 
 // The packet that arrived, and the reply if there is one.
-fn exchanged(rt: &impl Print, o: Output, original: u64, arrived: &[u8], a: Answer, reply: &[u8; 1027]) -> Output {
+fn exchanged(
+    rt: &impl Print,
+    o: Output,
+    original: u64,
+    arrived: &[u8],
+    a: Answer,
+    reply: &[u8; 1027],
+) -> Output {
     let first = recorded(rt, o, original, arrived);
     match a {
         Answer::Reply(n) => {
@@ -90,7 +97,14 @@ fn exchanged(rt: &impl Print, o: Output, original: u64, arrived: &[u8], a: Answe
     }
 }
 
-pub fn answered(rt: &impl Print, o: Output, original: u64, arrived: &[u8], a: Answer, reply: &[u8; 1027]) -> Output {
+pub fn answered(
+    rt: &impl Print,
+    o: Output,
+    original: u64,
+    arrived: &[u8],
+    a: Answer,
+    reply: &[u8; 1027],
+) -> Output {
     let form = o.form;
     match form {
         Form::Text => Output {
