@@ -103,7 +103,7 @@ stored_awaited core w p =
     nowhere_at : (place : ℕ) → Nowhere ≡ At place → ⊥
     nowhere_at place e = false≢true (ap is_at e)
 
--- a call that stores writes the payload at its place, which is of the memory: so `bytes-in-front` and `bytes-behind` speak of it
+-- a call that stores writes the payload at its place, which is of the memory: so `bytes_in_front` and `bytes_behind` speak of it
 pub stored_call : (core : Core) (memory reply p : List ℕ) (place : ℕ) → lend_refusal core memory reply ≡ 0 → (packet_step core p).store ≡ At place
     → ((packet_of core memory reply p).memory ≡ written place (payload_of p) memory) × (place + length (payload_of p) ≤ length memory)
 stored_call core memory reply p place z e =
