@@ -10,7 +10,7 @@ use Rattle.state.specs.declared.Condition.TheVariants.{Off, Normal, Halted}
 use Rattle.state.specs.declared.Descriptor.TheVariants.{Armed}
 use Rattle.state.specs.declared.Kind.TheVariants as kind_is
 use Rattle.state.specs.declared.Speed.TheVariants.{Full}
-use Rattle.state.specs.declared.Stage.TheVariants as Stage-is
+use Rattle.state.specs.declared.Stage.TheVariants as stage_is
 use Rattle.state.specs.declared.Transfer.TheVariants as transfer_is
 use Rattle.state.specs.declared.Wait.TheVariants as wait_is
 use Rattle.calls.specs.declared.line.Line.{Line}
@@ -49,7 +49,7 @@ pub examples :
     × Asks "lend 131072 1041" Bad
     × Asks "force events 3145728" (Force (forced.Events 3145728))
     × Asks "force events 8388608" Bad
-    × Asks "force wait data 3 out" (Force (forced.Wait (wait_is.Data 3 Stage-is.Out)))
+    × Asks "force wait data 3 out" (Force (forced.Wait (wait_is.Data 3 stage_is.Out)))
     × Asks "force wait ack 3 0 8" (Force (forced.Wait (wait_is.Acknowledge 3 false 8)))
     × Asks "force record 15 condition halted" (Force (forced.Record 15 (field.Condition Halted)))
     × Asks "force record 15 events 127" (Force (forced.Record 15 (field.Events 127)))

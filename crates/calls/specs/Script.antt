@@ -10,7 +10,7 @@ use Rattle.state.specs.declared.Descriptor.TheVariants.{Unallocated, Armed}
 use Rattle.state.specs.declared.Endpoint.{Endpoint}
 use Rattle.state.specs.declared.Kind.{Kind}
 use Rattle.state.specs.declared.Kind.TheVariants as kind_is
-use Rattle.state.specs.declared.Stage.TheVariants as Stage-is
+use Rattle.state.specs.declared.Stage.TheVariants as stage_is
 use Rattle.state.specs.declared.Transfer.{Transfer}
 use Rattle.state.specs.declared.Transfer.TheVariants as transfer_is
 use Rattle.state.specs.declared.Wait.TheVariants as wait_is
@@ -135,8 +135,8 @@ force_events = number λ n. provided (eqb (system_bits (system_events_of n)) n) 
 -- `wait data R setup`, `wait data R out`, with R 0 to 255
 abbrev pub stages : ℕ → List (String × Form)
 stages r =
-    ("setup", ends (Force (forced.Wait (wait_is.Data r Stage-is.Setup))))
-    ∷ ("out", ends (Force (forced.Wait (wait_is.Data r Stage-is.Out))))
+    ("setup", ends (Force (forced.Wait (wait_is.Data r stage_is.Setup))))
+    ∷ ("out", ends (Force (forced.Wait (wait_is.Data r stage_is.Out))))
     ∷ []
 
 abbrev pub force_wait_data : Form
