@@ -113,12 +113,12 @@ others core w p j n =
 -- ---- M, address and speed
 
 pub record Device (core other : Core) : Type 0 where
-  pub memory_size_lem : other.memory_size ≡ core.memory_size
+  pub memory_size : other.memory_size ≡ core.memory_size
   pub same_address : other.address ≡ core.address
   pub same_speed : other.speed ≡ core.speed
 
 still : (core : Core) → Device core core
-still core = record { memory_size_lem = refl; same_address = refl; same_speed = refl }
+still core = record { memory_size = refl; same_address = refl; same_speed = refl }
 
 timeout_device : (core : Core) → Device core (timed_out core)
 unfolding timed_out missed
@@ -126,8 +126,8 @@ timeout_device core = go core.wait
   where
     go : (v : Wait) → Device core (run_out v core)
     go Nothing = still core
-    go (Data i stage) = record { memory_size_lem = refl; same_address = refl; same_speed = refl }
-    go (Acknowledge i buffer sent) = record { memory_size_lem = refl; same_address = refl; same_speed = refl }
+    go (Data i stage) = record { memory_size = refl; same_address = refl; same_speed = refl }
+    go (Acknowledge i buffer sent) = record { memory_size = refl; same_address = refl; same_speed = refl }
 
 -- no packet changes them
 pub device_kept : (core : Core) → Sound core → (p : List ℕ) → Device core (packet_step core p).core
@@ -135,8 +135,8 @@ unfolding data_step
 device_kept core w p =
     packet_by core p (λ (x : Step). Device core x.core) w
     (record {
-      awaited_data = λ i s e d x. record { memory_size_lem = refl; same_address = refl; same_speed = refl };
-      awaited_ack = λ i b k e a x. record { memory_size_lem = refl; same_address = refl; same_speed = refl };
+      awaited_data = λ i s e d x. record { memory_size = refl; same_address = refl; same_speed = refl };
+      awaited_ack = λ i b k e a x. record { memory_size = refl; same_address = refl; same_speed = refl };
       idle = λ e. idle (timed_out core) (timeout_device core) (timeout_sound core w);
     })
   where
@@ -145,7 +145,7 @@ device_kept core w p =
         no_wait_by c p (λ (x : Step). Device core x.core) u
         (record {
           quiet = d;
-          trouble = λ event. record { memory_size_lem = d.memory_size_lem; same_address = d.same_address; same_speed = d.same_speed };
+          trouble = λ event. record { memory_size = d.memory_size; same_address = d.same_address; same_speed = d.same_speed };
           frame = λ n. d;
-          token = λ a i m v. record { memory_size_lem = d.memory_size_lem; same_address = d.same_address; same_speed = d.same_speed };
+          token = λ a i m v. record { memory_size = d.memory_size; same_address = d.same_address; same_speed = d.same_speed };
         })

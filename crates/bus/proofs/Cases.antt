@@ -52,26 +52,26 @@ kind_of_toggle toggle = cond toggle packet.Data1 packet.Data0
 module _ (speed : Speed) (stage : Stage) (r : Record) (v : Verdict) (n : ℕ) (Q : Turn → Type 0) where
   pub record DataCases : Type 0 where
     pub not_good : Q (noting r NotGood)
-    pub out_of_place_lem : Q (noting r OutOfPlace)
+    pub out_of_place : Q (noting r OutOfPlace)
     pub in_stage : (toggle : Bool) → v ≡ verdict.Good (kind_of_toggle toggle) → Q (staged speed stage r toggle n)
 
   sequenced_by : DataCases → (k : pid.Kind) → v ≡ verdict.Good k → Q (sequenced speed stage r k n)
   sequenced_by c packet.Data0 e = c.in_stage false e
   sequenced_by c packet.Data1 e = c.in_stage true e
-  sequenced_by c packet.Data2 e = c.out_of_place_lem
-  sequenced_by c packet.Mdata e = c.out_of_place_lem
-  sequenced_by c packet.Out e = c.out_of_place_lem
-  sequenced_by c packet.In e = c.out_of_place_lem
-  sequenced_by c packet.Sof e = c.out_of_place_lem
-  sequenced_by c packet.Setup e = c.out_of_place_lem
-  sequenced_by c packet.Ack e = c.out_of_place_lem
-  sequenced_by c packet.Nak e = c.out_of_place_lem
-  sequenced_by c packet.Stall e = c.out_of_place_lem
-  sequenced_by c packet.Nyet e = c.out_of_place_lem
-  sequenced_by c packet.Pre e = c.out_of_place_lem
-  sequenced_by c packet.Split e = c.out_of_place_lem
-  sequenced_by c packet.Ping e = c.out_of_place_lem
-  sequenced_by c packet.Reserved e = c.out_of_place_lem
+  sequenced_by c packet.Data2 e = c.out_of_place
+  sequenced_by c packet.Mdata e = c.out_of_place
+  sequenced_by c packet.Out e = c.out_of_place
+  sequenced_by c packet.In e = c.out_of_place
+  sequenced_by c packet.Sof e = c.out_of_place
+  sequenced_by c packet.Setup e = c.out_of_place
+  sequenced_by c packet.Ack e = c.out_of_place
+  sequenced_by c packet.Nak e = c.out_of_place
+  sequenced_by c packet.Stall e = c.out_of_place
+  sequenced_by c packet.Nyet e = c.out_of_place
+  sequenced_by c packet.Pre e = c.out_of_place
+  sequenced_by c packet.Split e = c.out_of_place
+  sequenced_by c packet.Ping e = c.out_of_place
+  sequenced_by c packet.Reserved e = c.out_of_place
 
   pub data_by : DataCases → Q (data_turn speed stage r v n)
   data_by c = go v refl

@@ -99,14 +99,14 @@ Unharmed says = (says ≡ Silence) ⊎ (says ≡ Ack)
 
 after : (r : Record) (toggle : Bool) (n : ℕ) → Unharmed (after_setup r toggle n).says
 unfolding setting_up
-after r toggle n = after_setup_by r (λ (t : Turn). Unharmed t.says) toggle n (record { set_up_lem = λ z u. inr refl; not_taken = inl refl })
+after r toggle n = after_setup_by r (λ (t : Turn). Unharmed t.says) toggle n (record { setup_taken = λ z u. inr refl; not_taken = inl refl })
 
 pub setup_not_turned_away : (core : Core) (i : ℕ) (p : List ℕ) → core.wait ≡ wait.Data i stage.Setup → is_data_first p ≡ true → Unharmed (packet_step core p).says
 unfolding data_step
 setup_not_turned_away core i p e d =
     subst (λ (x : Step). Unharmed x.says) (sym (data_step_lem core i stage.Setup p e d))
     (data_by core.speed stage.Setup (record_at core i) (verdict_of p) (length (payload_of p)) (λ (t : Turn). Unharmed t.says)
-    (record { not_good = inl refl; out_of_place_lem = inl refl; in_stage = λ toggle f. after (record_at core i) toggle (length (payload_of p)) }))
+    (record { not_good = inl refl; out_of_place = inl refl; in_stage = λ toggle f. after (record_at core i) toggle (length (payload_of p)) }))
 
 -- the token itself is met with silence
 pub setup_token_silent : (i : ℕ) (r : Record) → (turn_of asks.Setup i r).says ≡ Silence

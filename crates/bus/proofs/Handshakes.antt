@@ -73,7 +73,7 @@ pub record StoredAt (x : Store) : Type 0 where
 
 -- its PID is not the toggle: all that one call knows of a repeat. That the payload was stored before is a statement over many calls
 pub record Repeats (r : Record) (s : Stage) (p : List ℕ) : Type 0 where
-  pub after_out_lem : s ≡ stage.Out
+  pub behind_out : s ≡ stage.Out
   pub other_toggle : verdict_of p ≡ verdict.Good (kind_of_toggle (not r.toggles.out_side))
 
 abbrev Accounted : Record → Stage → List ℕ → Turn → Type 0
@@ -84,7 +84,7 @@ module _ (core : Core) (r : Record) (p : List ℕ) where
   unfolding setting_up
   setup_accounted toggle n =
       after_setup_by r (Accounted r stage.Setup p) toggle n
-      (record { set_up_lem = λ z u a. inl (record { place = _; is_there = refl }); not_taken = λ a. absurd (silence_not a) })
+      (record { setup_taken = λ z u a. inl (record { place = _; is_there = refl }); not_taken = λ a. absurd (silence_not a) })
 
   out_accounted : (toggle : Bool) (n : ℕ) → verdict_of p ≡ verdict.Good (kind_of_toggle toggle) → Accounted r stage.Out p (after_out core.speed r toggle n)
   unfolding taking
@@ -92,7 +92,7 @@ module _ (core : Core) (r : Record) (p : List ℕ) where
       after_out_by r (Accounted r stage.Out p) toggle n core.speed
       (record {
         out_stall = λ a. absurd (stall_not a);
-        out_repeat = λ f a. inr (record { after_out_lem = refl; other_toggle = e ∙ ap (λ (b : Bool). verdict.Good (kind_of_toggle b)) f });
+        out_repeat = λ f a. inr (record { behind_out = refl; other_toggle = e ∙ ap (λ (b : Bool). verdict.Good (kind_of_toggle b)) f });
         out_no_buffer = λ f a. absurd (nak_not a);
         out_too_long = λ f a. absurd (nak_not a);
         out_take = λ h u a. inl (record { place = _; is_there = refl });
@@ -110,7 +110,7 @@ acknowledged_stored core i s p e d =
     (data_by core.speed s (record_at core i) (verdict_of p) (length (payload_of p)) (Accounted (record_at core i) s p)
     (record {
       not_good = λ a. absurd (silence_not a);
-      out_of_place_lem = λ a. absurd (silence_not a);
+      out_of_place = λ a. absurd (silence_not a);
       in_stage = λ toggle f. staged_accounted core (record_at core i) p s toggle (length (payload_of p)) f;
     }))
 
@@ -165,7 +165,7 @@ module _ (core : Core) (p : List ℕ) where
 
   setup_nak : (r : Record) (toggle : Bool) (n : ℕ) → Nakked (after_setup r toggle n)
   unfolding setting_up
-  setup_nak r toggle n = after_setup_by r Nakked toggle n (record { set_up_lem = λ z u. acked; not_taken = quiet })
+  setup_nak r toggle n = after_setup_by r Nakked toggle n (record { setup_taken = λ z u. acked; not_taken = quiet })
 
   staged_nak : (i : ℕ) (s : Stage) → core.wait ≡ wait.Data i s → (toggle : Bool) → Nakked (staged core.speed s (record_at core i) toggle (length (payload_of p)))
   staged_nak i stage.Setup e toggle = setup_nak (record_at core i) toggle (length (payload_of p))
@@ -199,7 +199,7 @@ module _ (core : Core) (p : List ℕ) where
       packet_by core p (λ (x : Step). x.says ≡ Nak → NakReason core p) w
       (record {
         awaited_data = λ i s e d x. data_by core.speed s (record_at core i) (verdict_of p) (length (payload_of p)) Nakked
-            (record { not_good = quiet; out_of_place_lem = quiet; in_stage = λ toggle f. staged_nak i s e toggle });
+            (record { not_good = quiet; out_of_place = quiet; in_stage = λ toggle f. staged_nak i s e toggle });
         awaited_ack = λ i b n e a x. quiet;
         idle = λ e. no_wait_by (timed_out core) p (λ (x : Step). x.says ≡ Nak → NakReason core p) (timeout_sound core w)
             (record {

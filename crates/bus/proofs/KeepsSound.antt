@@ -80,13 +80,13 @@ module _ (core : Core) (w : Sound core) (i : ℕ) where
     data_wait stage d = (v.index, subst (λ (q : Record). DataWait q stage) (sym (record_given core i r (at v.index))) d)
 
     out_turn : Turned core i (on_out i r)
-    out_turn = record { moved = same; wait_sound = data_wait stage.Out (record { is_live = v.is_live; out_side_lem = v.side; stage_fits_lem = refl }) }
+    out_turn = record { moved = same; wait_sound = data_wait stage.Out (record { is_live = v.is_live; out_side_served = v.side; stage_fitting = refl }) }
 
     setup_turn : Turned core i (on_setup i r)
     setup_turn =
         setup_by r (Turned core i) i
         (record {
-          at_control = λ c. record { moved = same; wait_sound = data_wait stage.Setup (record { is_live = v.is_live; out_side_lem = v.side; stage_fits_lem = c }) };
+          at_control = λ c. record { moved = same; wait_sound = data_wait stage.Setup (record { is_live = v.is_live; out_side_served = v.side; stage_fitting = c }) };
           elsewhere = noted_turn OutOfPlace;
         })
 
@@ -103,7 +103,7 @@ module _ (core : Core) (w : Sound core) (i : ℕ) where
     flipped_moved : (q : Record) → Moved M core.speed r q → Moved M core.speed r (flipped_out q)
     flipped_moved q m =
         moved_toggles M core.speed r q m (record { out_side = not q.toggles.out_side; in_side = q.toggles.in_side })
-        (flip_out_fits q.endpoint.kind q.toggles (ap (λ (p : Endpoint). serves_out p.kind) m.same_endpoint ∙ v.side) m.sound.toggles_fit_lem)
+        (flip_out_fits q.endpoint.kind q.toggles (ap (λ (p : Endpoint). serves_out p.kind) m.same_endpoint ∙ v.side) m.sound.toggles_fitting)
 
     marked_moved : (q : Record) (n : ℕ) → Moved M core.speed r q → Moved M core.speed r (marked q n)
     unfolding marked
@@ -150,20 +150,20 @@ module _ (core : Core) (w : Sound core) (i : ℕ) where
           both_data1 = record { out_side = true; in_side = true }
 
           m : Moved M core.speed r (filled r false n)
-          m = let k = control_least core.speed r.endpoint (its_sound core w i Out v).endpoint_fits_lem c in filled_turn n (omega (arith, k, e)) false (control_out r.endpoint.kind c) u
+          m = let k = control_least core.speed r.endpoint (its_sound core w i Out v).endpoint_fitting c in filled_turn n (omega (arith, k, e)) false (control_out r.endpoint.kind c) u
 
       after_setup_turn : (toggle : Bool) (n : ℕ) → Turned core i (after_setup r toggle n)
       after_setup_turn toggle n =
-          after_setup_by r (Turned core i) toggle n (record { set_up_lem = set_up_turn n; not_taken = noted_turn NotTaken })
+          after_setup_by r (Turned core i) toggle n (record { setup_taken = set_up_turn n; not_taken = noted_turn NotTaken })
 
     staged_turn : (s : Stage) → DataWait r s → (toggle : Bool) (n : ℕ) → Turned core i (staged core.speed s r toggle n)
-    staged_turn stage.Setup d toggle n = after_setup_turn d.stage_fits_lem toggle n
+    staged_turn stage.Setup d toggle n = after_setup_turn d.stage_fitting toggle n
     staged_turn stage.Out d toggle n = after_out_turn toggle n
 
     data_turn_lem : (s : Stage) → DataWait r s → (x : Verdict) (n : ℕ) → Turned core i (data_turn core.speed s r x n)
     data_turn_lem s d x n =
         data_by core.speed s r x n (Turned core i)
-        (record { not_good = noted_turn NotGood; out_of_place_lem = noted_turn OutOfPlace; in_stage = λ toggle e. staged_turn s d toggle n })
+        (record { not_good = noted_turn NotGood; out_of_place = noted_turn OutOfPlace; in_stage = λ toggle e. staged_turn s d toggle n })
 
   -- ---- IN, and its acknowledge
 
@@ -183,7 +183,7 @@ module _ (core : Core) (w : Sound core) (i : ℕ) where
         now =
             record {
               is_live = v.is_live;
-              in_side_lem = v.side;
+              in_side_served = v.side;
               sent_from = in_sender r;
               sent_so_many = sends_left r.endpoint.maximum (buffer_of r (chosen In r)) a;
             }
@@ -197,11 +197,11 @@ module _ (core : Core) (w : Sound core) (i : ℕ) where
   acknowledged_turn second sent s =
       idle _ Silence
       (advanced_moved M core.speed r (flipped_in r)
-      (moved_toggles M core.speed r r (stays core w i In v) _ (flip_in_fits r.endpoint.kind r.toggles v.side (its_sound core w i In v).toggles_fit_lem))
+      (moved_toggles M core.speed r r (stays core w i In v) _ (flip_in_fits r.endpoint.kind r.toggles v.side (its_sound core w i In v).toggles_fitting))
       second sent (sender_side r.endpoint.kind v.side s.1.sent_from) s.1.sent_so_many)
     where
       v : Serving core i In
-      v = record { index = s.0; is_live = s.1.is_live; side = s.1.in_side_lem }
+      v = record { index = s.0; is_live = s.1.is_live; side = s.1.in_side_served }
 
       sender_side : (k : Kind) → serves_in k ≡ true → second ≡ (is_control k || r.next) → out_side k second ≡ false
       sender_side kind.Control p e = ap not e

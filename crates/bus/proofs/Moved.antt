@@ -41,7 +41,7 @@ module _ (M : ℕ) (speed : Speed) (r : Record) where
     pub moved_condition : (c : Condition) → live c ≡ true → Moved M speed r (with_condition q c)
     moved_condition c l =
         record {
-          sound = record { endpoint_fits_lem = m.sound.endpoint_fits_lem; toggles_fit_lem = m.sound.toggles_fit_lem; first_sound = m.sound.first_sound; second_sound = m.sound.second_sound };
+          sound = record { endpoint_fitting = m.sound.endpoint_fitting; toggles_fitting = m.sound.toggles_fitting; first_sound = m.sound.first_sound; second_sound = m.sound.second_sound };
           is_live = l;
           same_endpoint = m.same_endpoint;
           same_spans = m.same_spans;
@@ -50,7 +50,7 @@ module _ (M : ℕ) (speed : Speed) (r : Record) where
     pub moved_next : (next : Bool) → Moved M speed r (with_next q next)
     moved_next next =
         record {
-          sound = record { endpoint_fits_lem = m.sound.endpoint_fits_lem; toggles_fit_lem = m.sound.toggles_fit_lem; first_sound = m.sound.first_sound; second_sound = m.sound.second_sound };
+          sound = record { endpoint_fitting = m.sound.endpoint_fitting; toggles_fitting = m.sound.toggles_fitting; first_sound = m.sound.first_sound; second_sound = m.sound.second_sound };
           is_live = m.is_live;
           same_endpoint = m.same_endpoint;
           same_spans = m.same_spans;
@@ -59,7 +59,7 @@ module _ (M : ℕ) (speed : Speed) (r : Record) where
     pub moved_events : (events : RecordEvents) → Moved M speed r (with_events q events)
     moved_events events =
         record {
-          sound = record { endpoint_fits_lem = m.sound.endpoint_fits_lem; toggles_fit_lem = m.sound.toggles_fit_lem; first_sound = m.sound.first_sound; second_sound = m.sound.second_sound };
+          sound = record { endpoint_fitting = m.sound.endpoint_fitting; toggles_fitting = m.sound.toggles_fitting; first_sound = m.sound.first_sound; second_sound = m.sound.second_sound };
           is_live = m.is_live;
           same_endpoint = m.same_endpoint;
           same_spans = m.same_spans;
@@ -68,7 +68,7 @@ module _ (M : ℕ) (speed : Speed) (r : Record) where
     pub moved_toggles : (t : Toggles) → toggles_fit q.endpoint.kind t ≡ true → Moved M speed r (with_toggles q t)
     moved_toggles t f =
         record {
-          sound = record { endpoint_fits_lem = m.sound.endpoint_fits_lem; toggles_fit_lem = f; first_sound = m.sound.first_sound; second_sound = m.sound.second_sound };
+          sound = record { endpoint_fitting = m.sound.endpoint_fitting; toggles_fitting = f; first_sound = m.sound.first_sound; second_sound = m.sound.second_sound };
           is_live = m.is_live;
           same_endpoint = m.same_endpoint;
           same_spans = m.same_spans;

@@ -181,7 +181,7 @@ in_only_by_ack core w p no_ack no_setup j =
     after : (i : ℕ) (s : Stage) → core.wait ≡ wait.Data i s → is_data_first p ≡ true → WaitSound core (wait.Data i s) → Keeps core (record_at core i) (data_turn core.speed s (record_at core i) (verdict_of p) (length (payload_of p)))
     after i s e d x =
         data_by core.speed s (record_at core i) (verdict_of p) (length (payload_of p)) (Keeps core (record_at core i))
-        (record { not_good = noted_same core (record_at core i) NotGood; out_of_place_lem = noted_same core (record_at core i) OutOfPlace; in_stage = λ toggle f. in_stage i s e d (awaiting core i s x) toggle })
+        (record { not_good = noted_same core (record_at core i) NotGood; out_of_place = noted_same core (record_at core i) OutOfPlace; in_stage = λ toggle f. in_stage i s e d (awaiting core i s x) toggle })
 
     idle_same : (c : Core) → Sound c → InSame (record_at c j) (record_at (no_wait c p).core j)
     idle_same c u =

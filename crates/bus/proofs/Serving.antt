@@ -27,7 +27,7 @@ pub record Serving (core : Core) (i : ℕ) (direction : Direction) : Type 0 wher
   pub side : serves direction (record_at core i).endpoint.kind ≡ true
 
 pub awaiting : (core : Core) (i : ℕ) (stage : Stage) → WaitSound core (Data i stage) → Serving core i Out
-awaiting core i stage v = record { index = v.0; is_live = v.1.is_live; side = v.1.out_side_lem }
+awaiting core i stage v = record { index = v.0; is_live = v.1.is_live; side = v.1.out_side_served }
 
 module _ (core : Core) (w : Sound core) (i : ℕ) (direction : Direction) (v : Serving core i direction) where
   pub its_sound : LiveSound core.memory_size core.speed (record_at core i)

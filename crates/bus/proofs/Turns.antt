@@ -81,7 +81,7 @@ module _ (r : Record) (Q : Turn → Type 0) where
 
   module _ (toggle : Bool) (n : ℕ) where
     pub record AfterSetup : Type 0 where
-      pub set_up_lem : n ≡ 8 → is_unused (buffer_of r false) ≡ true → Q (setting_up r n)
+      pub setup_taken : n ≡ 8 → is_unused (buffer_of r false) ≡ true → Q (setting_up r n)
       pub not_taken : Q (noting r NotTaken)
 
     pub after_setup_by : AfterSetup → Q (after_setup r toggle n)
@@ -91,7 +91,7 @@ module _ (r : Record) (Q : Turn → Type 0) where
         pick : (b : Bool) → (not toggle && eqb n 8 && is_unused (buffer_of r false)) ≡ b → Q (cond b (setting_up r n) (noting r NotTaken))
         pick true e =
             let p = both (not toggle && eqb n 8) (is_unused (buffer_of r false)) e in
-            c.set_up_lem (eqb-true n 8 (both (not toggle) (eqb n 8) p.0).1) p.1
+            c.setup_taken (eqb-true n 8 (both (not toggle) (eqb n 8) p.0).1) p.1
         pick false e = c.not_taken
 
     pub record AfterOut (speed : Speed) : Type 0 where

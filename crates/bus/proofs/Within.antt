@@ -94,25 +94,25 @@ module _ (core : Core) (w : Sound core) (i : ℕ) where
     after_setup_within c toggle n =
         after_setup_by r (λ (t : Turn). StoreWithin t.store n M) toggle n
         (record {
-          set_up_lem = λ z u. let k = control_least core.speed r.endpoint s.endpoint_fits_lem c in room n (omega (arith, k, z)) false (control_out r.endpoint.kind c) u;
+          setup_taken = λ z u. let k = control_least core.speed r.endpoint s.endpoint_fitting c in room n (omega (arith, k, z)) false (control_out r.endpoint.kind c) u;
           not_taken = tt;
         })
 
     staged_within : (x : Stage) → DataWait r x → (toggle : Bool) (n : ℕ) → StoreWithin (staged core.speed x r toggle n).store n M
-    staged_within stage.Setup d toggle n = after_setup_within d.stage_fits_lem toggle n
+    staged_within stage.Setup d toggle n = after_setup_within d.stage_fitting toggle n
     staged_within stage.Out d toggle n = after_out_within toggle n
 
     pub store_within : (x : Stage) → DataWait r x → (y : Verdict) (n : ℕ) → StoreWithin (data_turn core.speed x r y n).store n M
     store_within x d y n =
         data_by core.speed x r y n (λ (t : Turn). StoreWithin t.store n M)
-        (record { not_good = tt; out_of_place_lem = tt; in_stage = λ toggle e. staged_within x d toggle n })
+        (record { not_good = tt; out_of_place = tt; in_stage = λ toggle e. staged_within x d toggle n })
 
     -- ---- a handshake is no data
 
     staged_says : (x : Stage) (toggle : Bool) (n : ℕ) → SaysWithin (staged core.speed x r toggle n).says M
     unfolding taking setting_up
     staged_says stage.Setup toggle n =
-        after_setup_by r (λ (t : Turn). SaysWithin t.says M) toggle n (record { set_up_lem = λ z u. tt; not_taken = tt })
+        after_setup_by r (λ (t : Turn). SaysWithin t.says M) toggle n (record { setup_taken = λ z u. tt; not_taken = tt })
     staged_says stage.Out toggle n =
         after_out_by r (λ (t : Turn). SaysWithin t.says M) toggle n core.speed
         (record {
@@ -126,13 +126,13 @@ module _ (core : Core) (w : Sound core) (i : ℕ) where
     data_says : (x : Stage) (y : Verdict) (n : ℕ) → SaysWithin (data_turn core.speed x r y n).says M
     data_says x y n =
         data_by core.speed x r y n (λ (t : Turn). SaysWithin t.says M)
-        (record { not_good = tt; out_of_place_lem = tt; in_stage = λ toggle e. staged_says x toggle n })
+        (record { not_good = tt; out_of_place = tt; in_stage = λ toggle e. staged_says x toggle n })
 
   pub sent_roomy : (second : Bool) (sent : ℕ) → WaitSound core (wait.Acknowledge i second sent) → Roomy r sent
   sent_roomy second sent x = pick second x.1.sent_so_many
     where
       v : Serving core i In
-      v = record { index = x.0; is_live = x.1.is_live; side = x.1.in_side_lem }
+      v = record { index = x.0; is_live = x.1.is_live; side = x.1.in_side_served }
 
       t : LiveSound M core.speed r
       t = its_sound core w i In v
@@ -145,7 +145,7 @@ module _ (core : Core) (w : Sound core) (i : ℕ) where
 
       pick : (second : Bool) → sends r.endpoint.maximum sent (buffer_of r second) ≡ true → Roomy r sent
       pick second e =
-          let m = maximum_most core.speed r.endpoint t.endpoint_fits_lem in
+          let m = maximum_most core.speed r.endpoint t.endpoint_fitting in
           let n = sent_most r.endpoint.maximum sent (buffer_of r second) e in
           (omega (arith, a, m, n), omega (arith, b, m, n))
 
@@ -156,7 +156,7 @@ module _ (core : Core) (w : Sound core) (i : ℕ) where
     unfolding sending active
     sending_within a =
         let t = its_sound core w i In v in
-        let m = maximum_most core.speed r.endpoint t.endpoint_fits_lem in
+        let m = maximum_most core.speed r.endpoint t.endpoint_fitting in
         let n = in_room M r.endpoint.maximum (buffer_of r (chosen In r)) (subst (λ (out : Bool). DescriptorSound M out r.endpoint.maximum (buffer_of r (chosen In r))) (in_chosen r v.side) (buffer_sound M core.speed r t (chosen In r))) a in
         (n, omega (arith, m))
 

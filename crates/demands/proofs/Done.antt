@@ -118,6 +118,6 @@ run_told i k (g ∷ gs) core l w t =
 pub done_by_history : DoneByHistory the_core
 done_by_history =
     record {
-      done_is = λ s gs i second. (run_told i second gs (the_core s.before s.lent (Start s.memory_size_lem s.speed)).core (emptied blank) (start_sound s.memory_size_lem s.speed) (start_told i second blank s.memory_size_lem s.speed)).counted_is;
+      done_is = λ s gs i second. (run_told i second gs (the_core s.before s.lent (Start s.memory_size s.speed)).core (emptied blank) (start_sound s.memory_size s.speed) (start_told i second blank s.memory_size s.speed)).counted_is;
       stands = λ s gs lent i second j at p. stands (run_from the_core s gs) (run_sound s gs) lent i second j at p;
     }

@@ -121,7 +121,7 @@ module _ (core : Core) (w : Sound core) (p memory : List ℕ) (i : ℕ) (k : Boo
   unfolding data_step
   data_moves j s e x =
       each_after core w j x.0 turn.after i (λ (m : ℕ) (y : Record). done y k ≡ done_in core m k + cond (taken_as j s turn m) n 0)
-      (stored_here j s turn (accounted (record_at core j) (verdict_of p) n core.speed s x.1.stage_fits_lem))
+      (stored_here j s turn (accounted (record_at core j) (verdict_of p) n core.speed s x.1.stage_fitting))
       (stored_elsewhere j s turn)
       ∙ ap (λ (v : Wait). done_in core i k + gained i k core v p (bytes_of (placed core j turn) (payload_of p) memory)) (sym e)
     where

@@ -71,7 +71,7 @@ module _ (speed : Speed) (r : Record) (n : ℕ) where
   staged_ends : (s : Stage) (toggle : Bool) → (staged speed s r toggle n).wait ≡ Nothing
   unfolding taking setting_up
   staged_ends stage.Setup toggle =
-      after_setup_by r (λ (t : Turn). t.wait ≡ Nothing) toggle n (record { set_up_lem = λ z u. refl; not_taken = refl })
+      after_setup_by r (λ (t : Turn). t.wait ≡ Nothing) toggle n (record { setup_taken = λ z u. refl; not_taken = refl })
   staged_ends stage.Out toggle =
       after_out_by r (λ (t : Turn). t.wait ≡ Nothing) toggle n speed
       (record {
@@ -85,7 +85,7 @@ module _ (speed : Speed) (r : Record) (n : ℕ) where
   data_ends : (s : Stage) (v : Verdict) → (data_turn speed s r v n).wait ≡ Nothing
   data_ends s v =
       data_by speed s r v n (λ (t : Turn). t.wait ≡ Nothing)
-      (record { not_good = refl; out_of_place_lem = refl; in_stage = λ toggle e. staged_ends s toggle })
+      (record { not_good = refl; out_of_place = refl; in_stage = λ toggle e. staged_ends s toggle })
 
 pub timeout_ends : (core : Core) → (timed_out core).wait ≡ Nothing
 unfolding timed_out missed

@@ -159,14 +159,14 @@ module _ (speed : Speed) (r : Record) (n : ℕ) where
 
   staged_ends : (x : Stage) (toggle : Bool) → Ends (staged speed x r toggle n)
   unfolding setting_up taking
-  staged_ends stage.Setup toggle = after_setup_by r Ends toggle n (record { set_up_lem = λ z u. refl; not_taken = refl })
+  staged_ends stage.Setup toggle = after_setup_by r Ends toggle n (record { setup_taken = λ z u. refl; not_taken = refl })
   staged_ends stage.Out toggle =
       after_out_by r Ends toggle n speed
       (record { out_stall = refl; out_repeat = λ e. refl; out_no_buffer = λ e. refl; out_too_long = λ e. refl; out_take = λ h a. refl })
 
   data_ends : (x : Stage) (v : Verdict) → Ends (data_turn speed x r v n)
   data_ends x v =
-      data_by speed x r v n Ends (record { not_good = refl; out_of_place_lem = refl; in_stage = λ toggle e. staged_ends x toggle })
+      data_by speed x r v n Ends (record { not_good = refl; out_of_place = refl; in_stage = λ toggle e. staged_ends x toggle })
 
   not_good_noted : (x : Stage) (v : Verdict) → v ≡ verdict.NotGood → Noted r (data_turn speed x r v n).after
   not_good_noted x v e = subst (λ (y : Verdict). Noted r (data_turn speed x r y n).after) (sym e) (_, refl)
@@ -191,7 +191,7 @@ module _ (s : Setting) (core : Core) (plays : Plays s core) (p : List ℕ) where
       packet_by core p (λ (x : Step). Calm s p core x.core) plays.sound
       (record {
         awaited_data = λ i x e d v. placed_calm s p core plays i _ (data_calm g i x e);
-        awaited_ack = λ i b k e a v. placed_calm s p core plays i (acknowledged (record_at core i) b k) (record { noted = λ f. absurd (not_in s core plays p i v.1.in_side_lem f); waits = no_wait_lem s p _ refl });
+        awaited_ack = λ i b k e a v. placed_calm s p core plays i (acknowledged (record_at core i) b k) (record { noted = λ f. absurd (not_in s core plays p i v.1.in_side_served f); waits = no_wait_lem s p _ refl });
         idle = λ e. record { quiet = quiet_then s.index core (timed_out core) _ (timeout_quiet core plays.sound s.index) idle.quiet; waits = idle.waits };
       })
     where

@@ -48,11 +48,11 @@ module _ (s : Setting) (core : Core) (plays : Plays s core) where
   number_small : s.endpoint ≤ 15
   unfolding endpoint_fits
   number_small =
-      let p = parts (leb r.endpoint.number 15) (type_fits r.endpoint.kind r.endpoint.transfer ∷ maximum_fits core.speed r.endpoint.transfer r.endpoint.maximum ∷ []) its_range.endpoint_fits_lem in
+      let p = parts (leb r.endpoint.number 15) (type_fits r.endpoint.kind r.endpoint.transfer ∷ maximum_fits core.speed r.endpoint.transfer r.endpoint.maximum ∷ []) its_range.endpoint_fitting in
       omega (arith, leb-true r.endpoint.number 15 p.0, plays.same_number)
 
   pub maximum_small : r.endpoint.maximum ≤ 1024
-  maximum_small = maximum_most core.speed r.endpoint its_range.endpoint_fits_lem
+  maximum_small = maximum_most core.speed r.endpoint its_range.endpoint_fitting
 
   -- ---- the search
 

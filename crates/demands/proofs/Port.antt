@@ -49,7 +49,7 @@ abbrev calling : Call → Given
 calling c = record { lent = lent; call = c }
 
 abbrev pub beginning : Beginning
-beginning = record { before = started 0 Full; lent = lent; memory_size_lem = 256; speed = Full }
+beginning = record { before = started 0 Full; lent = lent; memory_size = 256; speed = Full }
 
 abbrev pub set_up : List Given
 set_up =

@@ -60,7 +60,7 @@ run_on_sound core w (g ∷ gs) =
 
 pub run_sound : (s : Beginning) (gs : List Given) → Sound (run_from the_core s gs)
 run_sound s gs =
-    run_on_sound (the_core s.before s.lent (Start s.memory_size_lem s.speed)).core (start_sound s.memory_size_lem s.speed) gs
+    run_on_sound (the_core s.before s.lent (Start s.memory_size s.speed)).core (start_sound s.memory_size s.speed) gs
 
 -- ---- each entry judges its own arguments
 

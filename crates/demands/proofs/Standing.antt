@@ -51,7 +51,7 @@ module _ (core : Core) (w : Sound core) (lent : Lent) (i : ℕ) (s : Stage) (p :
     unfolding data_step
     store_place a =
         ap (λ (x : Step). x.store) (data_step_lem core i s p e data_first)
-        ∙ go (accounted (record_at core i) (verdict_of p) (length (payload_of p)) core.speed s (subst (WaitSound core) e w.wait_sound).1.stage_fits_lem)
+        ∙ go (accounted (record_at core i) (verdict_of p) (length (payload_of p)) core.speed s (subst (WaitSound core) e w.wait_sound).1.stage_fitting)
       where
         said_so : is_acceptance (bytes_of (data_step core i s p) (payload_of p) lent.memory) ≡ true
         said_so = subst (λ (x : Step). is_acceptance (bytes_of x (payload_of p) lent.memory) ≡ true) (data_step_lem core i s p e data_first) a

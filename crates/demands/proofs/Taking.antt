@@ -124,9 +124,9 @@ module _ (r : Record) (v : Verdict) (n : ℕ) where
     unfolding chosen
     zero_chosen = rw c
 
-    set_up_lem : v ≡ verdict.Good pid.Data0 → is_unused (buffer_of r false) ≡ true → StoredTurn r stage.Setup v n (setting_up r n)
+    setup_taken : v ≡ verdict.Good pid.Data0 → is_unused (buffer_of r false) ≡ true → StoredTurn r stage.Setup v n (setting_up r n)
     unfolding setting_up pid_byte
-    set_up_lem e u =
+    setup_taken e u =
         record {
           place = ap (λ (b : Bool). At (place_of (buffer_of r b))) (sym zero_chosen);
           grows = subst (λ (b : Bool). Grows r (setting_up r n).after b n) (sym zero_chosen) (filled_grows r false n (unused_armed (buffer_of r false) u));
@@ -139,7 +139,7 @@ module _ (r : Record) (v : Verdict) (n : ℕ) where
     setup_accounted true e = noted_only r stage.Setup v n NotTaken
     setup_accounted false e =
         after_setup_by r (Accounted r stage.Setup v n) false n
-        (record { set_up_lem = λ z u. inl (set_up_lem e u); not_taken = noted_only r stage.Setup v n NotTaken })
+        (record { setup_taken = λ z u. inl (setup_taken e u); not_taken = noted_only r stage.Setup v n NotTaken })
 
   -- ---- every awaited packet
 
@@ -150,4 +150,4 @@ module _ (r : Record) (v : Verdict) (n : ℕ) where
   pub accounted : (speed : Speed) (s : Stage) → stage_fits s r.endpoint.kind ≡ true → Accounted r s v n (data_turn speed s r v n)
   accounted speed s f =
       data_by speed s r v n (Accounted r s v n)
-      (record { not_good = noted_only r s v n NotGood; out_of_place_lem = noted_only r s v n OutOfPlace; in_stage = staged_accounted speed s f })
+      (record { not_good = noted_only r s v n NotGood; out_of_place = noted_only r s v n OutOfPlace; in_stage = staged_accounted speed s f })

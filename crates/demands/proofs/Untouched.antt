@@ -150,18 +150,18 @@ module _ (core : Core) (w : Sound core) (place : ℕ) (free : Unarmed core place
     setup_spares c toggle =
         after_setup_by r Spares toggle n
         (record {
-          set_up_lem = λ z u. let k = control_least core.speed r.endpoint s.endpoint_fits_lem c in buffer_spares (omega (arith, k, z)) false (control_out r.endpoint.kind c) u;
+          setup_taken = λ z u. let k = control_least core.speed r.endpoint s.endpoint_fitting c in buffer_spares (omega (arith, k, z)) false (control_out r.endpoint.kind c) u;
           not_taken = tt;
         })
 
     staged_spares : (x : Stage) → DataWait r x → (toggle : Bool) → Spares (staged core.speed x r toggle n)
-    staged_spares stage.Setup d toggle = setup_spares d.stage_fits_lem toggle
+    staged_spares stage.Setup d toggle = setup_spares d.stage_fitting toggle
     staged_spares stage.Out d toggle = out_spares toggle
 
     data_spares : (x : Stage) → DataWait r x → (y : Verdict) → Spares (data_turn core.speed x r y n)
     data_spares x d y =
         data_by core.speed x r y n Spares
-        (record { not_good = tt; out_of_place_lem = tt; in_stage = λ toggle e. staged_spares x d toggle })
+        (record { not_good = tt; out_of_place = tt; in_stage = λ toggle e. staged_spares x d toggle })
 
   step_spares : (p : List ℕ) → StoredBeside place (length (payload_of p)) (packet_step core p).store
   unfolding data_step acknowledged

@@ -155,11 +155,11 @@ run B core (g ∷ gs) = run B (B core g.lent g.call).core gs
 pub record Beginning : Type 0 where
   pub before : Core
   pub lent : Lent
-  pub memory_size_lem : ℕ
+  pub memory_size : ℕ
   pub speed : Speed
 
 abbrev pub start_call : Beginning → Given
-start_call s = record { lent = s.lent; call = Start s.memory_size_lem s.speed }
+start_call s = record { lent = s.lent; call = Start s.memory_size s.speed }
 
 abbrev pub from : Beginning → List Given → List Given
 from s gs = start_call s ∷ gs

@@ -130,7 +130,7 @@ module _ (core : Core) (w : Sound core) (i : ℕ) where
   revived h c lc lr t f v =
       let s = as_live (record_at core i).condition core.memory_size core.speed (record_at core i) lr (w.each_record i h) in
       replaced core w i h (with_toggles (with_condition (record_at core i) c) t)
-      (from_live c core.memory_size core.speed (with_toggles (with_condition (record_at core i) c) t) lc (record { endpoint_fits_lem = s.endpoint_fits_lem; toggles_fit_lem = f; first_sound = s.first_sound; second_sound = s.second_sound }))
+      (from_live c core.memory_size core.speed (with_toggles (with_condition (record_at core i) c) t) lc (record { endpoint_fitting = s.endpoint_fitting; toggles_fitting = f; first_sound = s.first_sound; second_sound = s.second_sound }))
       (same_served core w i h (with_toggles (with_condition (record_at core i) c) t) (rw (lc, lr)))
       (same_apart core w i h (with_toggles (with_condition (record_at core i) c) t) refl)
       (elsewhere_kept core w i h (with_toggles (with_condition (record_at core i) c) t) v)
@@ -143,7 +143,7 @@ module _ (core : Core) (w : Sound core) (i : ℕ) where
       let h = index i p.1.0 in
       let l = not-false (live (record_at core i).condition) p.1.1.1.0 in
       let s = as_live (record_at core i).condition core.memory_size core.speed (record_at core i) l (w.each_record i h) in
-      revived h Halted refl l (record_at core i).toggles s.toggles_fit_lem p.1.1.0)
+      revived h Halted refl l (record_at core i).toggles s.toggles_fitting p.1.1.0)
 
   pub clear_halt_sound : Sound (clear_halt_of core i).core
   unfolding clear_halt_of
@@ -157,9 +157,9 @@ module _ (core : Core) (w : Sound core) (i : ℕ) where
 events_kept : (c : Condition) (M : ℕ) (speed : Speed) (r : Record) → SoundAs c M speed r → SoundAs c M speed (with_events r no_events)
 events_kept Off M speed r w = ap (λ (x : Record). with_events x no_events) w
 events_kept Normal M speed r w =
-    record { endpoint_fits_lem = w.endpoint_fits_lem; toggles_fit_lem = w.toggles_fit_lem; first_sound = w.first_sound; second_sound = w.second_sound }
+    record { endpoint_fitting = w.endpoint_fitting; toggles_fitting = w.toggles_fitting; first_sound = w.first_sound; second_sound = w.second_sound }
 events_kept Halted M speed r w =
-    record { endpoint_fits_lem = w.endpoint_fits_lem; toggles_fit_lem = w.toggles_fit_lem; first_sound = w.first_sound; second_sound = w.second_sound }
+    record { endpoint_fitting = w.endpoint_fitting; toggles_fitting = w.toggles_fitting; first_sound = w.first_sound; second_sound = w.second_sound }
 
 pub record_events_sound : (core : Core) (i : ℕ) → Sound core → Sound (record_events_of core i).core
 unfolding record_events_of
@@ -171,8 +171,8 @@ record_events_sound core i w =
     (same_served core w i h (with_events (record_at core i) no_events) refl)
     (same_apart core w i h (with_events (record_at core i) no_events) refl)
     (wait_kept core w i h (with_events (record_at core i) no_events) core.wait
-    (λ stage v d. record { is_live = d.is_live; out_side_lem = d.out_side_lem; stage_fits_lem = d.stage_fits_lem })
-    (λ buffer sent v a. record { is_live = a.is_live; in_side_lem = a.in_side_lem; sent_from = a.sent_from; sent_so_many = a.sent_so_many })
+    (λ stage v d. record { is_live = d.is_live; out_side_served = d.out_side_served; stage_fitting = d.stage_fitting })
+    (λ buffer sent v a. record { is_live = a.is_live; in_side_served = a.in_side_served; sent_from = a.sent_from; sent_so_many = a.sent_so_many })
     w.wait_sound))
 
 -- ---- configure
@@ -203,7 +203,7 @@ module _ (core : Core) (w : Sound core) (i : ℕ) (h : i < 16) (unused : in_use 
   unfolding served_elsewhere
   fresh_sound e f s =
       put (fresh Normal e)
-      (record { endpoint_fits_lem = f; toggles_fit_lem = toggles_zero e.kind; first_sound = tt; second_sound = tt })
+      (record { endpoint_fitting = f; toggles_fitting = toggles_zero e.kind; first_sound = tt; second_sound = tt })
       (not-false (all (beside (fresh Normal e)) (set core.records i off_record)) s)
       refl
 
@@ -282,8 +282,8 @@ module _ (core : Core) (w : Sound core) (i : ℕ) (h : i < 16) (l : live (record
       (armed_sound core.memory_size (out_side (record_at core i).endpoint.kind second) (record_at core i).endpoint.maximum base length m)
       (filled_apart core w i h second base length 0 false (not-false (all (apart (span_from base length)) (armed_spans (set core.records i (with_buffer (record_at core i) second Unallocated)))) s))
       (wait_kept core w i h (with_buffer (record_at core i) second (Armed base length 0 false)) core.wait
-      (λ stage v d. record { is_live = d.is_live; out_side_lem = d.out_side_lem; stage_fits_lem = d.stage_fits_lem })
-      (λ buffer sent v a. record { is_live = a.is_live; in_side_lem = a.in_side_lem; sent_from = a.sent_from; sent_so_many = sends_kept (record_at core i) second buffer (Armed base length 0 false) (record_at core i).endpoint.maximum sent n a.sent_so_many })
+      (λ stage v d. record { is_live = d.is_live; out_side_served = d.out_side_served; stage_fitting = d.stage_fitting })
+      (λ buffer sent v a. record { is_live = a.is_live; in_side_served = a.in_side_served; sent_from = a.sent_from; sent_so_many = sends_kept (record_at core i) second buffer (Armed base length 0 false) (record_at core i).endpoint.maximum sent n a.sent_so_many })
       w.wait_sound)
 
 pub arm_sound : (core : Core) (i buffer base length : ℕ) → Sound core → Sound (arm_of core i buffer base length).core

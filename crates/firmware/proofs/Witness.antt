@@ -37,14 +37,14 @@ sending = (arm_of taking 1 0 16 5).core
 
 pub record Accepted : Type 0 where
   pub armed : refusal (arm_of taking 1 0 16 5).answer ≡ 0
-  pub waits_for_data_lem : is_sound (with_wait sending (Data 0 Setup)) ≡ true
+  pub waits_for_data : is_sound (with_wait sending (Data 0 Setup)) ≡ true
   pub waits_for_ack : is_sound (with_wait sending (Acknowledge 1 false 5)) ≡ true
   pub wrong_length : is_sound (with_wait sending (Acknowledge 1 false 8)) ≡ false
   pub overlap : refusal (arm_of sending 1 1 20 5).answer ≡ 13
 
 pub accepted : Accepted
 unfolding settled start_of configure_of arm_of in_use served_elsewhere shares_byte is_sound record_fits live_fits is_zero endpoint_fits misplaced mark_fits beside share_byte
-accepted = record { armed = refl; waits_for_data_lem = refl; waits_for_ack = refl; wrong_length = refl; overlap = refl }
+accepted = record { armed = refl; waits_for_data = refl; waits_for_ack = refl; wrong_length = refl; overlap = refl }
 
 pub witness : Sound (with_wait sending (Acknowledge 1 false 5))
 witness = tested (with_wait sending (Acknowledge 1 false 5)) accepted.waits_for_ack

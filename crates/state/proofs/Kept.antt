@@ -48,9 +48,9 @@ from_live Halted M speed r l w = w
 -- a live record with one buffer given anew, by the side of that buffer
 pub with_buffer_sound : (M : ℕ) (speed : Speed) (r : Record) (second : Bool) (d : Descriptor) → LiveSound M speed r → DescriptorSound M (out_side r.endpoint.kind second) r.endpoint.maximum d → LiveSound M speed (with_buffer r second d)
 with_buffer_sound M speed r false d w s =
-    record { endpoint_fits_lem = w.endpoint_fits_lem; toggles_fit_lem = w.toggles_fit_lem; first_sound = s; second_sound = w.second_sound }
+    record { endpoint_fitting = w.endpoint_fitting; toggles_fitting = w.toggles_fitting; first_sound = s; second_sound = w.second_sound }
 with_buffer_sound M speed r true d w s =
-    record { endpoint_fits_lem = w.endpoint_fits_lem; toggles_fit_lem = w.toggles_fit_lem; first_sound = w.first_sound; second_sound = s }
+    record { endpoint_fitting = w.endpoint_fitting; toggles_fitting = w.toggles_fitting; first_sound = w.first_sound; second_sound = s }
 
 -- either buffer of a live record is sound, by its side
 pub buffer_sound : (M : ℕ) (speed : Speed) (r : Record) → LiveSound M speed r → (second : Bool) → DescriptorSound M (out_side r.endpoint.kind second) r.endpoint.maximum (buffer_of r second)

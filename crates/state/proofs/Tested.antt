@@ -60,8 +60,8 @@ module _ (M : ℕ) (speed : Speed) (r : Record) where
   live_sound e =
       let p = parts (endpoint_fits speed r.endpoint) (toggles_fit r.endpoint.kind r.toggles ∷ descriptor_fits M (out_side r.endpoint.kind false) r.endpoint.maximum r.first ∷ descriptor_fits M (out_side r.endpoint.kind true) r.endpoint.maximum r.second ∷ []) e in
       record {
-        endpoint_fits_lem = p.0;
-        toggles_fit_lem = p.1.0;
+        endpoint_fitting = p.0;
+        toggles_fitting = p.1.0;
         first_sound = descriptor_sound M (out_side r.endpoint.kind false) r.endpoint.maximum r.first p.1.1.0;
         second_sound = descriptor_sound M (out_side r.endpoint.kind true) r.endpoint.maximum r.second p.1.1.1.0;
       }
@@ -70,7 +70,7 @@ module _ (M : ℕ) (speed : Speed) (r : Record) where
   unfolding live_fits
   live_fits_lem w =
       joined (endpoint_fits speed r.endpoint) (toggles_fit r.endpoint.kind r.toggles ∷ descriptor_fits M (out_side r.endpoint.kind false) r.endpoint.maximum r.first ∷ descriptor_fits M (out_side r.endpoint.kind true) r.endpoint.maximum r.second ∷ [])
-      (w.endpoint_fits_lem, (w.toggles_fit_lem, (descriptor_fits_lem M (out_side r.endpoint.kind false) r.endpoint.maximum r.first w.first_sound, (descriptor_fits_lem M (out_side r.endpoint.kind true) r.endpoint.maximum r.second w.second_sound, tt))))
+      (w.endpoint_fitting, (w.toggles_fitting, (descriptor_fits_lem M (out_side r.endpoint.kind false) r.endpoint.maximum r.first w.first_sound, (descriptor_fits_lem M (out_side r.endpoint.kind true) r.endpoint.maximum r.second w.second_sound, tt))))
 
   record_by : (c : Condition) → (live c ≡ false → is_zero r ≡ true → r ≡ off_record) → cond (live c) (live_fits M speed r) (is_zero r) ≡ true → SoundAs c M speed r
   record_by Off z e = z refl e
@@ -102,12 +102,12 @@ index i e = omega (arith, leb-true i 15 e)
 data_sound : (r : Record) (stage : Stage) → data_fits r stage ≡ true → DataWait r stage
 data_sound r stage e =
     let p = parts (live r.condition) (serves_out r.endpoint.kind ∷ stage_fits stage r.endpoint.kind ∷ []) e in
-    record { is_live = p.0; out_side_lem = p.1.0; stage_fits_lem = p.1.1.0 }
+    record { is_live = p.0; out_side_served = p.1.0; stage_fitting = p.1.1.0 }
 
 acknowledge_sound : (r : Record) (buffer : Bool) (sent : ℕ) → acknowledge_fits r buffer sent ≡ true → AcknowledgeWait r buffer sent
 acknowledge_sound r buffer sent e =
     let p = parts (live r.condition) (serves_in r.endpoint.kind ∷ beq buffer (sender r) ∷ sends r.endpoint.maximum sent (buffer_of r buffer) ∷ []) e in
-    record { is_live = p.0; in_side_lem = p.1.0; sent_from = same buffer (sender r) p.1.1.0; sent_so_many = p.1.1.1.0 }
+    record { is_live = p.0; in_side_served = p.1.0; sent_from = same buffer (sender r) p.1.1.0; sent_so_many = p.1.1.1.0 }
 
 wait_sound : (core : Core) (wait : Wait) → leb (wait_record wait) 15 ≡ true → wait_fits (record_at core (wait_record wait)) wait ≡ true → WaitSound core wait
 wait_sound core Nothing i e = tt
@@ -122,9 +122,9 @@ wait_within core (Acknowledge n buffer sent) w = le-leb n 15 (omega (arith, w.0)
 wait_fits_lem : (core : Core) (wait : Wait) → WaitSound core wait → wait_fits (record_at core (wait_record wait)) wait ≡ true
 wait_fits_lem core Nothing w = refl
 wait_fits_lem core (Data n stage) w =
-    joined (live (record_at core n).condition) (serves_out (record_at core n).endpoint.kind ∷ stage_fits stage (record_at core n).endpoint.kind ∷ []) (w.1.is_live, (w.1.out_side_lem, (w.1.stage_fits_lem, tt)))
+    joined (live (record_at core n).condition) (serves_out (record_at core n).endpoint.kind ∷ stage_fits stage (record_at core n).endpoint.kind ∷ []) (w.1.is_live, (w.1.out_side_served, (w.1.stage_fitting, tt)))
 wait_fits_lem core (Acknowledge n buffer sent) w =
-    joined (live (record_at core n).condition) (serves_in (record_at core n).endpoint.kind ∷ beq buffer (sender (record_at core n)) ∷ sends (record_at core n).endpoint.maximum sent (buffer_of (record_at core n) buffer) ∷ []) (w.1.is_live, (w.1.in_side_lem, (ap (beq buffer) (sym w.1.sent_from) ∙ alike buffer, (w.1.sent_so_many, tt))))
+    joined (live (record_at core n).condition) (serves_in (record_at core n).endpoint.kind ∷ beq buffer (sender (record_at core n)) ∷ sends (record_at core n).endpoint.maximum sent (buffer_of (record_at core n) buffer) ∷ []) (w.1.is_live, (w.1.in_side_served, (ap (beq buffer) (sym w.1.sent_from) ∙ alike buffer, (w.1.sent_so_many, tt))))
 
 -- ---- the whole
 

@@ -119,8 +119,8 @@ done_of (Armed base length done used) = done
 
 -- a live record within the ranges above
 pub record LiveSound (M : ℕ) (speed : Speed) (r : Record) : Type 0 where
-  pub endpoint_fits_lem : endpoint_fits speed r.endpoint ≡ true
-  pub toggles_fit_lem : toggles_fit r.endpoint.kind r.toggles ≡ true
+  pub endpoint_fitting : endpoint_fits speed r.endpoint ≡ true
+  pub toggles_fitting : toggles_fit r.endpoint.kind r.toggles ≡ true
   pub first_sound : DescriptorSound M (out_side r.endpoint.kind false) r.endpoint.maximum r.first
   pub second_sound : DescriptorSound M (out_side r.endpoint.kind true) r.endpoint.maximum r.second
 

@@ -35,13 +35,13 @@ sends maximum sent (Armed base length done used) = not used && eqb sent (min max
 -- a wait for data is on a live record of the OUT side
 pub record DataWait (r : Record) (stage : Stage) : Type 0 where
   pub is_live : live r.condition ≡ true
-  pub out_side_lem : serves_out r.endpoint.kind ≡ true
-  pub stage_fits_lem : stage_fits stage r.endpoint.kind ≡ true
+  pub out_side_served : serves_out r.endpoint.kind ≡ true
+  pub stage_fitting : stage_fits stage r.endpoint.kind ≡ true
 
 -- an acknowledge wait is on a live record of the IN side and names the buffer and the length sent
 pub record AcknowledgeWait (r : Record) (buffer : Bool) (sent : ℕ) : Type 0 where
   pub is_live : live r.condition ≡ true
-  pub in_side_lem : serves_in r.endpoint.kind ≡ true
+  pub in_side_served : serves_in r.endpoint.kind ≡ true
   pub sent_from : buffer ≡ sender r
   pub sent_so_many : sends r.endpoint.maximum sent (buffer_of r buffer) ≡ true
 
