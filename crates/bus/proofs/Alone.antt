@@ -5,6 +5,7 @@ use mathlib.Core.Path.{◌≡◌, refl, sym, ◌∙◌, ap, subst}
 use mathlib.Core.Logic.{◌≢◌, ◌⊎◌, inl, inr}
 use mathlib.Core.Bool.{Bool, true, false}
 use mathlib.Core.List.{List}
+use Rattle.std.specs.Prelude.{Some}
 use Rattle.laws.proofs.Bools.{dec_eq}
 use lib.ListN.{length}
 use Rattle.wire.specs.Data.{verdict_of, payload_of}
@@ -17,7 +18,6 @@ use Rattle.state.specs.declared.Core.{Core}
 use Rattle.state.specs.Update.{with_events, noted, with_wait, record_at, with_record}
 use Rattle.state.specs.Sound.{WaitSound, wait_record, Sound}
 use Rattle.state.proofs.Updates.{record_given, other_record}
-use Rattle.bus.specs.declared.search.Found.TheVariants.{At}
 use Rattle.bus.specs.declared.turn.Turn.{Turn}
 use Rattle.bus.specs.declared.turn.Step.{Step}
 use Rattle.bus.specs.Turn.{placed}
@@ -77,22 +77,22 @@ module _ (core : Core) (w : Sound core) (j : ℕ) where
 
   -- ---- the record that is served is one
 
-  other_idle : (p : List ℕ) → (met_at (meeting core p) ≡ At j → ⊥) → record_at (no_wait core p).core j ≡ record_at core j
+  other_idle : (p : List ℕ) → (met_at (meeting core p) ≡ Some j → ⊥) → record_at (no_wait core p).core j ≡ record_at core j
   other_idle p n =
       no_wait_by core p (λ (x : Step). record_at x.core j ≡ record_at core j) w
       (record {
         quiet = refl;
         trouble = λ event. refl;
         frame = λ k. refl;
-        token = λ a i e v. elsewhere core i j (turn_of a i (record_at core i)) (λ f. n (ap met_at e ∙ ap At (sym f)));
+        token = λ a i e v. elsewhere core i j (turn_of a i (record_at core i)) (λ f. n (ap met_at e ∙ ap Some (sym f)));
       })
 
 module _ (core : Core) (p : List ℕ) where
-  served_data : (i : ℕ) (stage : Stage) → core.wait ≡ Data i stage → is_data_first p ≡ true → served_at core p ≡ At i
+  served_data : (i : ℕ) (stage : Stage) → core.wait ≡ Data i stage → is_data_first p ≡ true → served_at core p ≡ Some i
   unfolding served_at
   served_data i stage e d = rw (e, d)
 
-  served_ack : (i : ℕ) (buffer : Bool) (sent : ℕ) → core.wait ≡ Acknowledge i buffer sent → is_ack p ≡ true → served_at core p ≡ At i
+  served_ack : (i : ℕ) (buffer : Bool) (sent : ℕ) → core.wait ≡ Acknowledge i buffer sent → is_ack p ≡ true → served_at core p ≡ Some i
   unfolding served_at
   served_ack i buffer sent e a = rw (e, a)
 
@@ -100,13 +100,13 @@ module _ (core : Core) (p : List ℕ) where
   unfolding served_at
   served_idle e = rw e
 
-pub others : (core : Core) → Sound core → (p : List ℕ) (j : ℕ) → (served_at core p ≡ At j → ⊥) → Ended core j (record_at (packet_step core p).core j)
+pub others : (core : Core) → Sound core → (p : List ℕ) (j : ℕ) → (served_at core p ≡ Some j → ⊥) → Ended core j (record_at (packet_step core p).core j)
 unfolding data_step
 others core w p j n =
     packet_by core p (λ (x : Step). Ended core j (record_at x.core j)) w
     (record {
-      awaited_data = λ i s e d x. inl (elsewhere core i j (data_turn core.speed s (record_at core i) (verdict_of p) (length (payload_of p))) (λ f. n (served_data core p i s e d ∙ ap At (sym f))));
-      awaited_ack = λ i b k e a x. inl (elsewhere core i j (acknowledged (record_at core i) b k) (λ f. n (served_ack core p i b k e a ∙ ap At (sym f))));
+      awaited_data = λ i s e d x. inl (elsewhere core i j (data_turn core.speed s (record_at core i) (verdict_of p) (length (payload_of p))) (λ f. n (served_data core p i s e d ∙ ap Some (sym f))));
+      awaited_ack = λ i b k e a x. inl (elsewhere core i j (acknowledged (record_at core i) b k) (λ f. n (served_ack core p i b k e a ∙ ap Some (sym f))));
       idle = λ e. subst (Ended core j) (sym (other_idle (timed_out core) (timeout_sound core w) j p (λ f. n (served_idle core p e ∙ f)))) (timeout_alone core w j);
     })
 

@@ -4,14 +4,10 @@ use mathlib.Core.Path.{◌≡◌, refl, subst}
 use mathlib.Core.Bool.{Bool, true, false, cond, false≢true}
 use mathlib.Core.List.{List}
 use lib.Dec.{eqb}
+use Rattle.std.specs.Prelude.{Option, Some, None}
 use Rattle.wire.specs.declared.pid.Kind as pid
 use Rattle.wire.specs.declared.pid.Kind.TheVariants as packet
-use Rattle.wire.specs.declared.pid.Pid.{Pid}
-use Rattle.wire.specs.declared.pid.Pid.TheVariants.{Checked, Failed}
 use Rattle.wire.specs.declared.token.Token as wire
-use Rattle.wire.specs.declared.token.Token.TheVariants.{Good, Bad}
-use Rattle.wire.specs.declared.data.Verdict.{Verdict}
-use Rattle.wire.specs.declared.data.Verdict.TheVariants as verdict
 use Rattle.wire.specs.Token.{token_of}
 use Rattle.state.specs.declared.Speed.{Speed}
 use Rattle.state.specs.declared.Speed.TheVariants.{Full, High}
@@ -26,8 +22,6 @@ use Rattle.state.specs.Update.{record_at}
 use Rattle.state.specs.Sound.{WaitSound, Sound}
 use Rattle.bus.specs.declared.token.Asks.{Asks}
 use Rattle.bus.specs.declared.token.Asks.TheVariants as asks
-use Rattle.bus.specs.declared.search.Found.{Found}
-use Rattle.bus.specs.declared.search.Found.TheVariants.{At, Nowhere}
 use Rattle.bus.specs.declared.idle.Met.{Met}
 use Rattle.bus.specs.declared.idle.Met.TheVariants.{Nothing, Trouble, Frame, Token}
 use Rattle.bus.specs.declared.turn.Says.TheVariants as says
@@ -40,6 +34,7 @@ use Rattle.bus.specs.Search.{found_in}
 use Rattle.bus.specs.Data.{staged, sequenced, data_turn}
 use Rattle.bus.specs.Idle.{first_pid, found_as, addressed, framed, pinged, by_kind, by_pid, meeting, met_by, no_wait}
 use Rattle.bus.specs.Arrival.{is_data_first, is_ack, data_step, awaited, awaited_step, fulfilled, packet_step, timed_out}
+use Rattle.bus.proofs.Turns.{choice}
 use Rattle.bus.proofs.Serving.{Serving}
 use Rattle.bus.proofs.Finding.{Searched, searched, found_serving}
 
@@ -49,13 +44,13 @@ use Rattle.bus.proofs.Finding.{Searched, searched, found_serving}
 abbrev pub kind_of_toggle : Bool → pid.Kind
 kind_of_toggle toggle = cond toggle packet.Data1 packet.Data0
 
-module _ (speed : Speed) (stage : Stage) (r : Record) (v : Verdict) (n : ℕ) (Q : Turn → Type 0) where
+module _ (speed : Speed) (stage : Stage) (r : Record) (v : Option pid.Kind) (n : ℕ) (Q : Turn → Type 0) where
   pub record DataCases : Type 0 where
     pub not_good : Q (noting r NotGood)
     pub out_of_place : Q (noting r OutOfPlace)
-    pub in_stage : (toggle : Bool) → v ≡ verdict.Good (kind_of_toggle toggle) → Q (staged speed stage r toggle n)
+    pub in_stage : (toggle : Bool) → v ≡ Some (kind_of_toggle toggle) → Q (staged speed stage r toggle n)
 
-  sequenced_by : DataCases → (k : pid.Kind) → v ≡ verdict.Good k → Q (sequenced speed stage r k n)
+  sequenced_by : DataCases → (k : pid.Kind) → v ≡ Some k → Q (sequenced speed stage r k n)
   sequenced_by c packet.Data0 e = c.in_stage false e
   sequenced_by c packet.Data1 e = c.in_stage true e
   sequenced_by c packet.Data2 e = c.out_of_place
@@ -76,9 +71,40 @@ module _ (speed : Speed) (stage : Stage) (r : Record) (v : Verdict) (n : ℕ) (Q
   pub data_by : DataCases → Q (data_turn speed stage r v n)
   data_by c = go v refl
     where
-      go : (x : Verdict) → v ≡ x → Q (data_turn speed stage r x n)
-      go verdict.NotGood e = c.not_good
-      go (verdict.Good k) e = sequenced_by c k e
+      go : (x : Option pid.Kind) → v ≡ x → Q (data_turn speed stage r x n)
+      go None e = c.not_good
+      go (Some k) e = sequenced_by c k e
+
+-- ---- the kinds of a packet that is read with no wait
+
+-- a kind that is nothing to the core, a token, an SOF: of two packets of one kind
+module _ (core : Core) (p q : List ℕ) (P : Met → Met → Type 0) where
+  pub record KindCases : Type 0 where
+    pub unmet : P Nothing Nothing
+    pub a_token : (a : Asks) → P (addressed core a (token_of p)) (addressed core a (token_of q))
+    pub an_sof : P (framed (token_of p)) (framed (token_of q))
+
+  pinged_by : KindCases → (speed : Speed) → P (pinged core speed p) (pinged core speed q)
+  pinged_by c Full = c.unmet
+  pinged_by c High = c.a_token asks.Ping
+
+  pub kind_by : KindCases → (k : pid.Kind) → P (by_kind core k p) (by_kind core k q)
+  kind_by c packet.Out = c.a_token asks.Out
+  kind_by c packet.In = c.a_token asks.In
+  kind_by c packet.Setup = c.a_token asks.Setup
+  kind_by c packet.Sof = c.an_sof
+  kind_by c packet.Ping = pinged_by c core.speed
+  kind_by c packet.Data0 = c.unmet
+  kind_by c packet.Data1 = c.unmet
+  kind_by c packet.Data2 = c.unmet
+  kind_by c packet.Mdata = c.unmet
+  kind_by c packet.Ack = c.unmet
+  kind_by c packet.Nak = c.unmet
+  kind_by c packet.Stall = c.unmet
+  kind_by c packet.Nyet = c.unmet
+  kind_by c packet.Pre = c.unmet
+  kind_by c packet.Split = c.unmet
+  kind_by c packet.Reserved = c.unmet
 
 -- ---- no wait
 
@@ -90,51 +116,30 @@ MetSound core (Frame frame) = Unit {0}
 MetSound core (Token a i) = Serving core i (direction_of a)
 
 module _ (core : Core) (w : Sound core) where
-  found_met : (a : Asks) (number : ℕ) (f : Found) → Searched core number (direction_of a) f → MetSound core (found_as a f)
-  found_met a number Nowhere s = tt
-  found_met a number (At i) s = found_serving core w number (direction_of a) i s
+  found_met : (a : Asks) (number : ℕ) (f : Option ℕ) → Searched core number (direction_of a) f → MetSound core (found_as a f)
+  found_met a number None s = tt
+  found_met a number (Some i) s = found_serving core w number (direction_of a) i s
 
-  addressed_met : (a : Asks) (t : wire.Token) → MetSound core (addressed core a t)
-  addressed_met a Bad = tt
-  addressed_met a (Good address endpoint frame) = pick (eqb address core.address)
-    where
-      pick : (b : Bool) → MetSound core (cond b (found_as a (found_in endpoint (direction_of a) core.records)) Nothing)
-      pick true = found_met a endpoint (found_in endpoint (direction_of a) core.records) (searched core w endpoint (direction_of a))
-      pick false = tt
+  addressed_met : (a : Asks) (t : Option wire.Token) → MetSound core (addressed core a t)
+  addressed_met a None = tt
+  addressed_met a (Some token) =
+      choice (MetSound core) (eqb token.address core.address) _ _
+      (λ e. found_met a token.endpoint (found_in token.endpoint (direction_of a) core.records) (searched core w token.endpoint (direction_of a)))
+      (λ e. tt)
 
-  framed_met : (t : wire.Token) → MetSound core (framed t)
-  framed_met Bad = tt
-  framed_met (Good address endpoint frame) = tt
-
-  pinged_met : (speed : Speed) (p : List ℕ) → MetSound core (pinged core speed p)
-  pinged_met Full p = tt
-  pinged_met High p = addressed_met asks.Ping (token_of p)
-
-  kind_met : (k : pid.Kind) (p : List ℕ) → MetSound core (by_kind core k p)
-  kind_met packet.Out p = addressed_met asks.Out (token_of p)
-  kind_met packet.In p = addressed_met asks.In (token_of p)
-  kind_met packet.Setup p = addressed_met asks.Setup (token_of p)
-  kind_met packet.Sof p = framed_met (token_of p)
-  kind_met packet.Ping p = pinged_met core.speed p
-  kind_met packet.Data0 p = tt
-  kind_met packet.Data1 p = tt
-  kind_met packet.Data2 p = tt
-  kind_met packet.Mdata p = tt
-  kind_met packet.Ack p = tt
-  kind_met packet.Nak p = tt
-  kind_met packet.Stall p = tt
-  kind_met packet.Nyet p = tt
-  kind_met packet.Pre p = tt
-  kind_met packet.Split p = tt
-  kind_met packet.Reserved p = tt
+  framed_met : (t : Option wire.Token) → MetSound core (framed t)
+  framed_met None = tt
+  framed_met (Some token) = tt
 
   met_sound : (p : List ℕ) → MetSound core (meeting core p)
   unfolding meeting
   met_sound p = go (first_pid p)
     where
-      go : (x : Pid) → MetSound core (by_pid core x p)
-      go Failed = tt
-      go (Checked k) = kind_met k p
+      go : (x : Option pid.Kind) → MetSound core (by_pid core x p)
+      go None = tt
+      go (Some k) =
+          kind_by core p p (λ (m n : Met). MetSound core m)
+          (record { unmet = tt; a_token = λ a. addressed_met a (token_of p); an_sof = framed_met (token_of p) }) k
 
   pub token_serving : (p : List ℕ) (a : Asks) (i : ℕ) → meeting core p ≡ Token a i → Serving core i (direction_of a)
   token_serving p a i e = subst (MetSound core) e (met_sound p)
@@ -166,13 +171,9 @@ module _ (core : Core) (p : List ℕ) (P : Step → Type 0) where
 
   pub packet_by : Sound core → PacketCases → P (packet_step core p)
   unfolding packet_step fulfilled
-  packet_by w c = pick (awaited core.wait p) refl
+  packet_by w c = choice P (awaited core.wait p) _ _ (go core.wait refl w.wait_sound) c.idle
     where
       go : (v : Wait) → core.wait ≡ v → WaitSound core v → awaited v p ≡ true → P (awaited_step v core p)
       go wait.Nothing e s a = absurd (false≢true a)
       go (wait.Data i stage) e s a = c.awaited_data i stage e a s
       go (wait.Acknowledge i buffer sent) e s a = c.awaited_ack i buffer sent e a s
-
-      pick : (b : Bool) → awaited core.wait p ≡ b → P (cond b (awaited_step core.wait core p) (no_wait (timed_out core) p))
-      pick true e = go core.wait refl w.wait_sound e
-      pick false e = c.idle e

@@ -8,9 +8,8 @@ use mathlib.Core.Bool.{Bool, true, false, not, cond, beq, true≢false, false≢
 use mathlib.Core.List.{List}
 use lib.ListN.{length}
 use lib.Seq.{set-get_or}
+use Rattle.std.specs.Prelude.{None, Option, Some}
 use Rattle.wire.specs.declared.pid.Kind as pid
-use Rattle.wire.specs.declared.data.Verdict.{Verdict}
-use Rattle.wire.specs.declared.data.Verdict.TheVariants as verdict
 use Rattle.wire.specs.Data.{verdict_of, payload_of}
 use Rattle.wire.specs.Data as wire_data
 use Rattle.wire.proofs.Reading.{passed}
@@ -24,7 +23,6 @@ use Rattle.state.specs.Update.{off_record, buffer_of, with_records, with_wait, r
 use Rattle.state.specs.Ranges.{is_control, is_armed, is_unused}
 use Rattle.bus.specs.declared.active.Direction.{Direction}
 use Rattle.bus.specs.declared.token.Asks.TheVariants as asks
-use Rattle.bus.specs.declared.turn.Store.TheVariants.{Nowhere}
 use Rattle.bus.specs.declared.turn.Says.{Says}
 use Rattle.bus.specs.declared.turn.Says.TheVariants.{Silence, Ack}
 use Rattle.bus.specs.declared.turn.Turn.{Turn}
@@ -57,7 +55,7 @@ other_only_then direction r c e = pick (is_armed (buffer_of r r.next)) refl r.ne
 
 -- ---- a packet that is awaited
 
-pub good_first : (p : List ℕ) (k : pid.Kind) → verdict_of p ≡ verdict.Good k → is_data_first p ≡ true
+pub good_first : (p : List ℕ) (k : pid.Kind) → verdict_of p ≡ Some k → is_data_first p ≡ true
 unfolding is_data_first
 good_first p k e =
     let q = passed p e in
@@ -70,17 +68,17 @@ data_step_lem core i s p e d =
 
 -- ---- NAK for a repeated packet: it is met with ACK, whatever the buffers, and nothing is stored
 
-pub repeated : (core : Core) (i : ℕ) (p : List ℕ) (toggle : Bool) → core.wait ≡ wait.Data i stage.Out → verdict_of p ≡ verdict.Good (kind_of_toggle toggle) → is_halted (record_at core i).condition ≡ false → toggle ≡ not (record_at core i).toggles.out_side
-    → packet_step core p ≡ record { core = with_wait core wait.Nothing; store = Nowhere; says = Ack }
+pub repeated : (core : Core) (i : ℕ) (p : List ℕ) (toggle : Bool) → core.wait ≡ wait.Data i stage.Out → verdict_of p ≡ Some (kind_of_toggle toggle) → is_halted (record_at core i).condition ≡ false → toggle ≡ not (record_at core i).toggles.out_side
+    → packet_step core p ≡ record { core = with_wait core wait.Nothing; store = None; says = Ack }
 unfolding data_step after_out
 repeated core i p toggle e v h t =
     data_step_lem core i stage.Out p e (good_first p (kind_of_toggle toggle) v)
-    ∙ ap (λ (x : Verdict). placed core i (data_turn core.speed stage.Out (record_at core i) x (length (payload_of p)))) v
+    ∙ ap (λ (x : Option pid.Kind). placed core i (data_turn core.speed stage.Out (record_at core i) x (length (payload_of p)))) v
     ∙ ap (placed core i) (turned toggle t)
     ∙ ap again (set-get_or core.records i off_record)
   where
     again : List Record → Step
-    again l = record { core = with_wait (with_records core l) wait.Nothing; store = Nowhere; says = Ack }
+    again l = record { core = with_wait (with_records core l) wait.Nothing; store = None; says = Ack }
 
     differs : (t o : Bool) → t ≡ not o → not (beq t o) ≡ true
     differs true true e = absurd (true≢false e)
@@ -88,7 +86,7 @@ repeated core i p toggle e v h t =
     differs false true e = refl
     differs false false e = absurd (false≢true e)
 
-    turned : (t : Bool) → t ≡ not (record_at core i).toggles.out_side → data_turn core.speed stage.Out (record_at core i) (verdict.Good (kind_of_toggle t)) (length (payload_of p)) ≡ saying (record_at core i) Ack
+    turned : (t : Bool) → t ≡ not (record_at core i).toggles.out_side → data_turn core.speed stage.Out (record_at core i) (Some (kind_of_toggle t)) (length (payload_of p)) ≡ saying (record_at core i) Ack
     turned true e = rw (h, differs true (record_at core i).toggles.out_side e)
     turned false e = rw (h, differs false (record_at core i).toggles.out_side e)
 

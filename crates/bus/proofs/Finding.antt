@@ -6,6 +6,7 @@ use mathlib.Core.Path.{◌≡◌, refl, sym, ◌∙◌, subst}
 use mathlib.Core.Bool.{Bool, true, false, ◌&&◌, ◌||◌, true≢false}
 use lib.Dec.{eqb}
 use borrow.Author.Tests.{eqb-true, eq-eqb}
+use Rattle.std.specs.Prelude.{Option, Some, None}
 use Rattle.laws.proofs.Bools.{both, dec_eq}
 use Rattle.laws.proofs.Lists.{FirstAt, matched}
 use Rattle.laws.proofs.Pairs.{pair_at}
@@ -18,8 +19,6 @@ use Rattle.state.specs.Served.{serves_out, serves_in, beside}
 use Rattle.state.specs.Sound.{Sound}
 use Rattle.bus.specs.declared.active.Direction.{Direction}
 use Rattle.bus.specs.declared.active.Direction.TheVariants.{Out, In}
-use Rattle.bus.specs.declared.search.Found.{Found}
-use Rattle.bus.specs.declared.search.Found.TheVariants.{At, Nowhere}
 use Rattle.bus.specs.Active.{serves}
 use Rattle.bus.specs.Search.{served_by, found_in}
 use Rattle.bus.proofs.Serving.{Serving}
@@ -53,10 +52,10 @@ not_beside number direction r s e f =
 
 -- ---- the search
 
-abbrev pub Searched : Core → ℕ → Direction → Found → Type 0
-Searched core number direction (At i) =
+abbrev pub Searched : Core → ℕ → Direction → Option ℕ → Type 0
+Searched core number direction (Some i) =
     (i < 16) × (served_by number direction (record_at core i) ≡ true) × ((j : ℕ) → j < 16 → served_by number direction (record_at core j) ≡ true → j ≡ i)
-Searched core number direction Nowhere = (j : ℕ) → j < 16 → served_by number direction (record_at core j) ≡ false
+Searched core number direction None = (j : ℕ) → j < 16 → served_by number direction (record_at core j) ≡ false
 
 module _ (core : Core) (w : Sound core) (number : ℕ) (direction : Direction) where
   only : (i j : ℕ) → i < 16 → j < 16 → served_by number direction (record_at core i) ≡ true → served_by number direction (record_at core j) ≡ true → i < j → ⊥
@@ -66,8 +65,8 @@ module _ (core : Core) (w : Sound core) (number : ℕ) (direction : Direction) w
   pub searched : Searched core number direction (found_in number direction core.records)
   unfolding found_in
   searched =
-      matched (served_by number direction) At Nowhere off_record (Searched core number direction) 0 core.records
-      (λ i p. let same : i ≡ i + 0 = omega arith in subst (λ (n : ℕ). Searched core number direction (At n)) same (omega (arith, p.within, w.sixteen), p.passes, one i p))
+      matched (served_by number direction) Some None off_record (Searched core number direction) 0 core.records
+      (λ i p. let same : i ≡ i + 0 = omega arith in subst (λ (n : ℕ). Searched core number direction (Some n)) same (omega (arith, p.within, w.sixteen), p.passes, one i p))
       (λ none j h. none j (omega (arith, h, w.sixteen)))
     where
       one : (i : ℕ) → FirstAt (served_by number direction) off_record core.records i → (j : ℕ) → j < 16 → served_by number direction (record_at core j) ≡ true → j ≡ i
@@ -83,7 +82,7 @@ module _ (core : Core) (w : Sound core) (number : ℕ) (direction : Direction) w
               apart (yes less) h = only i j h k p.passes f less
               apart (no more) h = only j i k h f p.passes (omega (arith, n, more))
 
-  pub found_serving : (i : ℕ) → Searched core number direction (At i) → Serving core i direction
+  pub found_serving : (i : ℕ) → Searched core number direction (Some i) → Serving core i direction
   found_serving i s =
       let p = serving_parts number direction (record_at core i) s.1 in
       record { index = s.0; is_live = p.0; side = p.2 }

@@ -1,13 +1,12 @@
 -- What a handshake tells: ACK and NYET, that the payload is stored or its PID is not the toggle; NAK, that there is no active buffer or the payload is too
 -- long. Assumes nothing.
 use Prim.Native.Nat.{ℕ, ◌<◌}
-use native.Mathlib.Omega.{arith}
 use mathlib.Core.Path.{◌≡◌, refl, sym, ◌∙◌, ap, subst}
 use mathlib.Core.Logic.{◌⊎◌, inl, inr}
 use mathlib.Core.Bool.{Bool, true, false, not}
 use mathlib.Core.List.{List}
 use lib.ListN.{length}
-use Rattle.wire.specs.declared.data.Verdict.TheVariants as verdict
+use Rattle.std.specs.Prelude.{Option, Some}
 use Rattle.wire.specs.Data.{verdict_of, payload_of}
 use Rattle.state.specs.declared.Record.{Record}
 use Rattle.state.specs.declared.Stage.{Stage}
@@ -20,8 +19,6 @@ use Rattle.bus.specs.declared.active.Direction.TheVariants.{Out, In}
 use Rattle.bus.specs.declared.token.Asks.{Asks}
 use Rattle.bus.specs.declared.token.Asks.TheVariants as asks
 use Rattle.bus.specs.declared.idle.Met.TheVariants.{Token}
-use Rattle.bus.specs.declared.turn.Store.{Store}
-use Rattle.bus.specs.declared.turn.Store.TheVariants.{At}
 use Rattle.bus.specs.declared.turn.Says.{Says}
 use Rattle.bus.specs.declared.turn.Says.TheVariants.{Silence, Ack, Nak, Stall, Nyet, Data, Frame}
 use Rattle.bus.specs.declared.turn.Turn.{Turn}
@@ -38,43 +35,33 @@ use Rattle.bus.proofs.KeepsSound.{timeout_sound}
 
 -- ---- what is said is told apart
 
-abbrev code : Says → ℕ
-code Silence = 0
-code Ack = 1
-code Nak = 2
-code Stall = 3
-code Nyet = 4
-code (Data toggle from count) = 5
-code (Frame frame) = 6
-
 -- ACK or NYET
 abbrev pub Positive : Says → Type 0
 Positive says = (says ≡ Ack) ⊎ (says ≡ Nyet)
 
-not_positive : (s : Says) → (code s ≡ 1 → ⊥) → (code s ≡ 4 → ⊥) → Positive s → ⊥
-not_positive s f g (inl e) = f (ap code e)
-not_positive s f g (inr e) = g (ap code e)
-
 silence_not : Positive Silence → ⊥
-silence_not = not_positive Silence (λ e. omega (arith, e)) (λ e. omega (arith, e))
+silence_not (inl e) = cc
+silence_not (inr e) = cc
 
 stall_not : Positive Stall → ⊥
-stall_not = not_positive Stall (λ e. omega (arith, e)) (λ e. omega (arith, e))
+stall_not (inl e) = cc
+stall_not (inr e) = cc
 
 nak_not : Positive Nak → ⊥
-nak_not = not_positive Nak (λ e. omega (arith, e)) (λ e. omega (arith, e))
+nak_not (inl e) = cc
+nak_not (inr e) = cc
 
 -- ---- ACK and NYET
 
 -- the payload is stored at a place
-pub record StoredAt (x : Store) : Type 0 where
+pub record StoredAt (x : Option ℕ) : Type 0 where
   pub place : ℕ
-  pub is_there : x ≡ At place
+  pub is_there : x ≡ Some place
 
 -- its PID is not the toggle: all that one call knows of a repeat. That the payload was stored before is a statement over many calls
 pub record Repeats (r : Record) (s : Stage) (p : List ℕ) : Type 0 where
   pub behind_out : s ≡ stage.Out
-  pub other_toggle : verdict_of p ≡ verdict.Good (kind_of_toggle (not r.toggles.out_side))
+  pub other_toggle : verdict_of p ≡ Some (kind_of_toggle (not r.toggles.out_side))
 
 abbrev Accounted : Record → Stage → List ℕ → Turn → Type 0
 Accounted r s p t = Positive t.says → StoredAt t.store ⊎ Repeats r s p
@@ -86,19 +73,19 @@ module _ (core : Core) (r : Record) (p : List ℕ) where
       after_setup_by r (Accounted r stage.Setup p) toggle n
       (record { setup_taken = λ z u a. inl (record { place = _; is_there = refl }); not_taken = λ a. absurd (silence_not a) })
 
-  out_accounted : (toggle : Bool) (n : ℕ) → verdict_of p ≡ verdict.Good (kind_of_toggle toggle) → Accounted r stage.Out p (after_out core.speed r toggle n)
+  out_accounted : (toggle : Bool) (n : ℕ) → verdict_of p ≡ Some (kind_of_toggle toggle) → Accounted r stage.Out p (after_out core.speed r toggle n)
   unfolding taking
   out_accounted toggle n e =
       after_out_by r (Accounted r stage.Out p) toggle n core.speed
       (record {
         out_stall = λ a. absurd (stall_not a);
-        out_repeat = λ f a. inr (record { behind_out = refl; other_toggle = e ∙ ap (λ (b : Bool). verdict.Good (kind_of_toggle b)) f });
+        out_repeat = λ f a. inr (record { behind_out = refl; other_toggle = e ∙ ap (λ (b : Bool). Some (kind_of_toggle b)) f });
         out_no_buffer = λ f a. absurd (nak_not a);
         out_too_long = λ f a. absurd (nak_not a);
         out_take = λ h u a. inl (record { place = _; is_there = refl });
       })
 
-  staged_accounted : (s : Stage) (toggle : Bool) (n : ℕ) → verdict_of p ≡ verdict.Good (kind_of_toggle toggle) → Accounted r s p (staged core.speed s r toggle n)
+  staged_accounted : (s : Stage) (toggle : Bool) (n : ℕ) → verdict_of p ≡ Some (kind_of_toggle toggle) → Accounted r s p (staged core.speed s r toggle n)
   staged_accounted stage.Setup toggle n e = setup_accounted toggle n
   staged_accounted stage.Out toggle n e = out_accounted toggle n e
 
@@ -123,31 +110,28 @@ pub data NakReason (core : Core) (p : List ℕ) : Type 0 where
   no_in_buffer : (i : ℕ) → meeting (timed_out core) p ≡ Token asks.In i → active In (record_at (timed_out core) i) ≡ false → NakReason core p
   no_ping_buffer : (i : ℕ) → meeting (timed_out core) p ≡ Token asks.Ping i → active Out (record_at (timed_out core) i) ≡ false → NakReason core p
 
-other_code : (s : Says) (n : ℕ) → code s ≡ n → (n ≡ 2 → ⊥) → s ≡ Nak → ⊥
-other_code s n e f g = f (sym e ∙ ap code g)
-
 module _ (core : Core) (p : List ℕ) where
   abbrev Nakked : Turn → Type 0
   Nakked t = t.says ≡ Nak → NakReason core p
 
   -- what else is said is no NAK
   quiet : Silence ≡ Nak → NakReason core p
-  quiet e = absurd (other_code Silence 0 refl (λ z. omega (arith, z)) e)
+  quiet e = absurd cc
 
   acked : Ack ≡ Nak → NakReason core p
-  acked e = absurd (other_code Ack 1 refl (λ z. omega (arith, z)) e)
+  acked e = absurd cc
 
   nyetted : Nyet ≡ Nak → NakReason core p
-  nyetted e = absurd (other_code Nyet 4 refl (λ z. omega (arith, z)) e)
+  nyetted e = absurd cc
 
   stalled : Stall ≡ Nak → NakReason core p
-  stalled e = absurd (other_code Stall 3 refl (λ z. omega (arith, z)) e)
+  stalled e = absurd cc
 
   sent : (toggle : Bool) (from count : ℕ) → Data toggle from count ≡ Nak → NakReason core p
-  sent toggle from count e = absurd (other_code (Data toggle from count) 5 refl (λ z. omega (arith, z)) e)
+  sent toggle from count e = absurd cc
 
   framed : (n : ℕ) → Frame n ≡ Nak → NakReason core p
-  framed n e = absurd (other_code (Frame n) 6 refl (λ z. omega (arith, z)) e)
+  framed n e = absurd cc
 
   -- ---- after data
 

@@ -2,11 +2,12 @@
 use Prim.Native.Nat.{ℕ, ◌≤◌, ◌<◌}
 use native.Mathlib.Omega.{arith}
 use mathlib.Core.Path.{◌≡◌, refl, sym, ◌∙◌, ap, subst}
-use mathlib.Core.Bool.{Bool, true, false, not, ◌||◌, cond, false≢true}
+use mathlib.Core.Bool.{Bool, true, false, not, ◌||◌, false≢true}
 use mathlib.Core.List.{List}
 use lib.Dec.{ltb}
 use lib.ListN.{length}
-use Rattle.wire.specs.declared.data.Verdict.{Verdict}
+use Rattle.std.specs.Prelude.{Option}
+use Rattle.wire.specs.declared.pid.Kind as pid
 use Rattle.wire.specs.Data.{verdict_of, payload_of}
 use Rattle.state.specs.declared.Condition.TheVariants.{Normal}
 use Rattle.state.specs.declared.Kind.{Kind}
@@ -14,7 +15,7 @@ use Rattle.state.specs.declared.Kind.TheVariants as kind
 use Rattle.state.specs.declared.Endpoint.{Endpoint}
 use Rattle.state.specs.declared.Toggles.{Toggles}
 use Rattle.state.specs.declared.RecordEvent.{RecordEvent}
-use Rattle.state.specs.declared.RecordEvent.TheVariants.{WaitEnded, NotGood, OutOfPlace, NotTaken, ShortPacket}
+use Rattle.state.specs.declared.RecordEvent.TheVariants.{WaitEnded, NotGood, OutOfPlace, NotTaken}
 use Rattle.state.specs.declared.SystemEvent.{SystemEvent}
 use Rattle.state.specs.declared.Record.{Record}
 use Rattle.state.specs.declared.Stage.{Stage}
@@ -22,7 +23,7 @@ use Rattle.state.specs.declared.Stage.TheVariants as stage
 use Rattle.state.specs.declared.Wait.{Wait}
 use Rattle.state.specs.declared.Wait.TheVariants as wait
 use Rattle.state.specs.declared.Core.{Core}
-use Rattle.state.specs.Update.{with_next, with_events, with_toggles, with_system_events, noted, signalled, buffer_of, record_at, with_record}
+use Rattle.state.specs.Update.{with_next, with_toggles, with_system_events, signalled, buffer_of, record_at, with_record}
 use Rattle.state.specs.Ranges.{live, is_control, toggles_fit, out_side, is_unused}
 use Rattle.state.specs.Served.{serves_out, serves_in}
 use Rattle.state.specs.Sound.{DataWait, AcknowledgeWait, WaitSound, Sound}
@@ -44,7 +45,7 @@ use Rattle.bus.specs.Arrival.{missed, data_step, packet_step, run_out, timed_out
 use Rattle.bus.proofs.Sizes.{control_least}
 use Rattle.bus.proofs.Moved.{Moved, moved_same, moved_condition, moved_next, moved_events, moved_toggles, filled_moved, advanced_moved, flip_out_fits, flip_in_fits, same_records, placed_sound}
 use Rattle.bus.proofs.Serving.{Serving, awaiting, its_sound, stays, out_chosen, control_out, in_sender, sends_left}
-use Rattle.bus.proofs.Turns.{ping_by, setup_by, in_by, after_setup_by, after_out_by}
+use Rattle.bus.proofs.Turns.{choice, ping_by, setup_by, in_by, after_setup_by, after_out_by}
 use Rattle.bus.proofs.Cases.{data_by, no_wait_by, packet_by}
 
 -- ---- the record's turn
@@ -107,11 +108,7 @@ module _ (core : Core) (w : Sound core) (i : ℕ) where
 
     marked_moved : (q : Record) (n : ℕ) → Moved M core.speed r q → Moved M core.speed r (marked q n)
     unfolding marked
-    marked_moved q n m = pick (ltb n q.endpoint.maximum)
-      where
-        pick : (b : Bool) → Moved M core.speed r (cond b (with_events q (noted q.events ShortPacket)) q)
-        pick true = moved_events M core.speed r q m _
-        pick false = m
+    marked_moved q n m = choice (Moved M core.speed r) (ltb n q.endpoint.maximum) _ _ (λ e. moved_events M core.speed r q m _) (λ e. m)
 
     taken_turn : (n : ℕ) → n ≤ r.endpoint.maximum → active Out r ≡ true → Turned core i (taking core.speed r n)
     unfolding taking taken active
@@ -160,7 +157,7 @@ module _ (core : Core) (w : Sound core) (i : ℕ) where
     staged_turn stage.Setup d toggle n = after_setup_turn d.stage_fitting toggle n
     staged_turn stage.Out d toggle n = after_out_turn toggle n
 
-    data_turn_lem : (s : Stage) → DataWait r s → (x : Verdict) (n : ℕ) → Turned core i (data_turn core.speed s r x n)
+    data_turn_lem : (s : Stage) → DataWait r s → (x : Option pid.Kind) (n : ℕ) → Turned core i (data_turn core.speed s r x n)
     data_turn_lem s d x n =
         data_by core.speed s r x n (Turned core i)
         (record { not_good = noted_turn NotGood; out_of_place = noted_turn OutOfPlace; in_stage = λ toggle e. staged_turn s d toggle n })

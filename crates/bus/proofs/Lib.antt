@@ -1,9 +1,7 @@
-pub mod Room
 pub mod Pids
 pub mod Laying
 pub mod Turns
 pub mod Descriptors
-pub mod Ending
 pub mod Sizes
 pub mod Moved
 pub mod Serving

@@ -8,35 +8,30 @@ use lib.Dec.{ltb}
 use lib.ListN.{length, get_or, take}
 use lib.Seq.{length-take-le, take_all, get_or-take}
 use borrow.Author.Tests.{ltb-true, ltb-false, lt-ltb, le-ltb, ne_eqb}
+use Rattle.std.specs.Prelude.{Option, Some, None}
 use Rattle.wire.specs.declared.pid.Kind as pid
-use Rattle.wire.specs.declared.pid.Kind.TheVariants as packet
-use Rattle.wire.specs.declared.pid.Pid.{Pid}
-use Rattle.wire.specs.declared.pid.Pid.TheVariants.{Checked, Failed}
-use Rattle.wire.specs.declared.token.Token.TheVariants.{Bad}
-use Rattle.wire.specs.declared.data.Verdict.TheVariants.{NotGood}
 use Rattle.wire.specs.Pid.{pid_of}
 use Rattle.wire.specs.Token.{token_of}
 use Rattle.wire.specs.Data.{is_data_pid, verdict_of, payload_of}
 use Rattle.wire.proofs.Reading.{not_good_empty}
-use Rattle.state.specs.declared.Speed.{Speed}
-use Rattle.state.specs.declared.Speed.TheVariants.{Full, High}
 use Rattle.state.specs.declared.Stage.{Stage}
 use Rattle.state.specs.declared.Wait.{Wait}
 use Rattle.state.specs.declared.Wait.TheVariants as wait
 use Rattle.state.specs.declared.Core.{Core}
 use Rattle.state.specs.Update.{record_at}
-use Rattle.bus.specs.declared.token.Asks.TheVariants as asks
 use Rattle.bus.specs.Turn.{placed}
-use Rattle.bus.specs.Idle.{first_pid, addressed, framed, pinged, by_kind, by_pid, meeting, met_by, no_wait}
+use Rattle.bus.specs.Idle.{first_pid, addressed, framed, by_kind, by_pid, meeting, met_by, no_wait}
 use Rattle.bus.specs.Arrival.{is_data_first, is_ack, data_step, awaited, awaited_step, fulfilled, packet_step, timed_out}
 use Rattle.bus.specs.Calls.{packet_of}
+use Rattle.bus.specs.declared.idle.Met.{Met}
+use Rattle.bus.proofs.Cases.{kind_by}
 use Rattle.bus.proofs.Pids.{first}
 use Rattle.bus.proofs.Steps.{same_turn}
 
 -- ---- a packet past 1,027 bytes is no token, no ACK and no good data
 
 module _ (p : List ℕ) (h : 1027 < length p) where
-  pub long_token : token_of p ≡ Bad
+  pub long_token : token_of p ≡ None
   unfolding token_of
   long_token = rw (ne_eqb (length p) 3 (λ e. omega (arith, h, e)))
 
@@ -44,7 +39,7 @@ module _ (p : List ℕ) (h : 1027 < length p) where
   unfolding is_ack
   long_ack = rw (ne_eqb (length p) 1 (λ e. omega (arith, h, e)))
 
-  pub long_verdict : verdict_of p ≡ NotGood
+  pub long_verdict : verdict_of p ≡ None
   unfolding verdict_of
   long_verdict = simp (le-ltb (length p) 3 (omega (arith, h)), lt-ltb 1027 (length p) h)
 
@@ -74,35 +69,18 @@ module _ (p q : List ℕ) (h : 1027 < length p) (k : 1027 < length q) (e : get_o
   same_payload = long_payload p h ∙ sym (long_payload q k)
 
   module _ (core : Core) where
-    same_ping : (speed : Speed) → pinged core speed p ≡ pinged core speed q
-    same_ping Full = refl
-    same_ping High = ap (addressed core asks.Ping) same_token
-
     same_kind : (x : pid.Kind) → by_kind core x p ≡ by_kind core x q
-    same_kind packet.Out = ap (addressed core asks.Out) same_token
-    same_kind packet.In = ap (addressed core asks.In) same_token
-    same_kind packet.Setup = ap (addressed core asks.Setup) same_token
-    same_kind packet.Sof = ap framed same_token
-    same_kind packet.Ping = same_ping core.speed
-    same_kind packet.Data0 = refl
-    same_kind packet.Data1 = refl
-    same_kind packet.Data2 = refl
-    same_kind packet.Mdata = refl
-    same_kind packet.Ack = refl
-    same_kind packet.Nak = refl
-    same_kind packet.Stall = refl
-    same_kind packet.Nyet = refl
-    same_kind packet.Pre = refl
-    same_kind packet.Split = refl
-    same_kind packet.Reserved = refl
+    same_kind =
+        kind_by core p q (λ (m n : Met). m ≡ n)
+        (record { unmet = refl; a_token = λ a. ap (addressed core a) same_token; an_sof = ap framed same_token })
 
-    same_by_pid : (x : Pid) → by_pid core x p ≡ by_pid core x q
-    same_by_pid Failed = refl
-    same_by_pid (Checked kind) = same_kind kind
+    same_by_pid : (x : Option pid.Kind) → by_pid core x p ≡ by_pid core x q
+    same_by_pid None = refl
+    same_by_pid (Some kind) = same_kind kind
 
     same_meeting : meeting core p ≡ meeting core q
     unfolding meeting
-    same_meeting = ap (λ (x : Pid). by_pid core x p) same_pid ∙ same_by_pid (first_pid q)
+    same_meeting = ap (λ (x : Option pid.Kind). by_pid core x p) same_pid ∙ same_by_pid (first_pid q)
 
     same_no_wait : no_wait core p ≡ no_wait core q
     unfolding no_wait

@@ -38,41 +38,28 @@ module _ (M : ℕ) (speed : Speed) (r : Record) where
   moved_same s l = record { sound = s; is_live = l; same_endpoint = refl; same_spans = refl }
 
   module _ (q : Record) (m : Moved M speed r q) where
-    pub moved_condition : (c : Condition) → live c ≡ true → Moved M speed r (with_condition q c)
-    moved_condition c l =
+    -- the same endpoint and the same buffers
+    moved_parts : (c : Condition) (e : RecordEvents) (next : Bool) (t : Toggles) → live c ≡ true → toggles_fit q.endpoint.kind t ≡ true
+        → Moved M speed r (record { condition = c; events = e; next = next; toggles = t; endpoint = q.endpoint; first = q.first; second = q.second })
+    moved_parts c e next t l f =
         record {
-          sound = record { endpoint_fitting = m.sound.endpoint_fitting; toggles_fitting = m.sound.toggles_fitting; first_sound = m.sound.first_sound; second_sound = m.sound.second_sound };
+          sound = record { endpoint_fitting = m.sound.endpoint_fitting; toggles_fitting = f; first_sound = m.sound.first_sound; second_sound = m.sound.second_sound };
           is_live = l;
           same_endpoint = m.same_endpoint;
           same_spans = m.same_spans;
         }
 
+    pub moved_condition : (c : Condition) → live c ≡ true → Moved M speed r (with_condition q c)
+    moved_condition c l = moved_parts c q.events q.next q.toggles l m.sound.toggles_fitting
+
     pub moved_next : (next : Bool) → Moved M speed r (with_next q next)
-    moved_next next =
-        record {
-          sound = record { endpoint_fitting = m.sound.endpoint_fitting; toggles_fitting = m.sound.toggles_fitting; first_sound = m.sound.first_sound; second_sound = m.sound.second_sound };
-          is_live = m.is_live;
-          same_endpoint = m.same_endpoint;
-          same_spans = m.same_spans;
-        }
+    moved_next next = moved_parts q.condition q.events next q.toggles m.is_live m.sound.toggles_fitting
 
     pub moved_events : (events : RecordEvents) → Moved M speed r (with_events q events)
-    moved_events events =
-        record {
-          sound = record { endpoint_fitting = m.sound.endpoint_fitting; toggles_fitting = m.sound.toggles_fitting; first_sound = m.sound.first_sound; second_sound = m.sound.second_sound };
-          is_live = m.is_live;
-          same_endpoint = m.same_endpoint;
-          same_spans = m.same_spans;
-        }
+    moved_events events = moved_parts q.condition events q.next q.toggles m.is_live m.sound.toggles_fitting
 
     pub moved_toggles : (t : Toggles) → toggles_fit q.endpoint.kind t ≡ true → Moved M speed r (with_toggles q t)
-    moved_toggles t f =
-        record {
-          sound = record { endpoint_fitting = m.sound.endpoint_fitting; toggles_fitting = f; first_sound = m.sound.first_sound; second_sound = m.sound.second_sound };
-          is_live = m.is_live;
-          same_endpoint = m.same_endpoint;
-          same_spans = m.same_spans;
-        }
+    moved_toggles t f = moved_parts q.condition q.events q.next t m.is_live f
 
     pub moved_buffer : (second : Bool) (d : Descriptor) → DescriptorSound M (out_side q.endpoint.kind second) q.endpoint.maximum d → spans_in d ≡ spans_in (buffer_of q second) → Moved M speed r (with_buffer q second d)
     moved_buffer second d s e =

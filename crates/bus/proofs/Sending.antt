@@ -8,10 +8,11 @@ use mathlib.Core.Bool.{Bool, true, false, not, ◌||◌, cond, true≢false}
 use mathlib.Core.List.{List, []}
 use lib.Dec.{ltb}
 use lib.ListN.{length}
+use Rattle.std.specs.Prelude.{None}
 use Rattle.laws.proofs.Bools.{dec_eq}
 use Rattle.wire.specs.Data.{packet, verdict_of, payload_of}
 use Rattle.state.specs.declared.RecordEvent.{RecordEvent}
-use Rattle.state.specs.declared.RecordEvent.TheVariants.{NotGood, OutOfPlace, ShortPacket}
+use Rattle.state.specs.declared.RecordEvent.TheVariants.{NotGood, OutOfPlace}
 use Rattle.state.specs.declared.RecordEvents.{RecordEvents}
 use Rattle.state.specs.declared.Endpoint.{Endpoint}
 use Rattle.state.specs.declared.Descriptor.{Descriptor}
@@ -21,25 +22,24 @@ use Rattle.state.specs.declared.Stage.{Stage}
 use Rattle.state.specs.declared.Stage.TheVariants as stage
 use Rattle.state.specs.declared.Wait.TheVariants as wait
 use Rattle.state.specs.declared.Core.{Core}
-use Rattle.state.specs.Update.{with_next, with_events, noted, buffer_of, with_buffer, record_at}
+use Rattle.state.specs.Update.{with_next, with_events, buffer_of, with_buffer, record_at}
 use Rattle.state.specs.Ranges.{is_control, is_armed, out_side, is_unused}
 use Rattle.state.specs.Sound.{sender, WaitSound, Sound}
 use Rattle.state.proofs.Updates.{record_given, other_record}
 use Rattle.bus.specs.declared.active.Direction.TheVariants.{Out, In}
 use Rattle.bus.specs.declared.token.Asks.{Asks}
 use Rattle.bus.specs.declared.token.Asks.TheVariants as asks
-use Rattle.bus.specs.declared.turn.Store.TheVariants.{Nowhere}
 use Rattle.bus.specs.declared.turn.Says.TheVariants.{Data}
 use Rattle.bus.specs.declared.turn.Turn.{Turn}
 use Rattle.bus.specs.declared.turn.Step.{Step}
 use Rattle.bus.specs.Turn.{data_pid, said, noting, placed}
 use Rattle.bus.specs.Active.{chosen, active, left_of, grown, spent, used_up, filled, acknowledged}
 use Rattle.bus.specs.Tokens.{is_halted, on_setup, on_ping, sending, on_in, turn_of}
-use Rattle.bus.specs.Data.{flipped_out, marked, taken, taking, after_out, staged, data_turn}
+use Rattle.bus.specs.Data.{marked, taken, taking, after_out, staged, data_turn}
 use Rattle.bus.specs.Idle.{no_wait}
 use Rattle.bus.specs.Arrival.{is_data_first, is_ack, data_step, packet_step, timed_out}
 use Rattle.bus.proofs.Serving.{Serving, awaiting, out_chosen, in_sender}
-use Rattle.bus.proofs.Turns.{ping_by, setup_by, in_by, after_out_by}
+use Rattle.bus.proofs.Turns.{choice, ping_by, setup_by, in_by, after_out_by}
 use Rattle.bus.proofs.Cases.{data_by, no_wait_by, packet_by}
 use Rattle.bus.proofs.KeepsSound.{timeout_sound}
 use Rattle.bus.proofs.Alone.{Ended, timeout_alone}
@@ -84,22 +84,18 @@ module _ (r : Record) (second : Bool) (o : out_side r.endpoint.kind second ≡ t
 
   filled_same : (n : ℕ) → InSame r (filled r second n)
   unfolding filled
-  filled_same n = pick (ltb (left_of (grown (buffer_of r second) n)) r.endpoint.maximum)
-    where
-      pick : (b : Bool) → InSame r (cond b (used_up (with_buffer r second (grown (buffer_of r second) n)) second) (with_next (with_buffer r second (grown (buffer_of r second) n)) second))
-      pick true = used_same (grown (buffer_of r second) n)
-      pick false = record { endpoint_same = refl; toggle = refl; buffers = λ k n'. other_side r second _ o k n' }
+  filled_same n =
+      choice (InSame r) (ltb (left_of (grown (buffer_of r second) n)) r.endpoint.maximum) _ _
+      (λ e. used_same (grown (buffer_of r second) n))
+      (λ e. record { endpoint_same = refl; toggle = refl; buffers = λ k n'. other_side r second _ o k n' })
 
 taken_same : (r : Record) (n : ℕ) → out_side r.endpoint.kind (chosen Out r) ≡ true → InSame r (taken r n)
 unfolding taken marked
-taken_same r n o = pick (ltb n (filled r (chosen Out r) n).endpoint.maximum)
-  where
-    f : InSame r (filled r (chosen Out r) n)
-    f = filled_same r (chosen Out r) o n
-
-    pick : (b : Bool) → InSame r (cond b (with_events (flipped_out (filled r (chosen Out r) n)) (noted (flipped_out (filled r (chosen Out r) n)).events ShortPacket)) (flipped_out (filled r (chosen Out r) n)))
-    pick true = record { endpoint_same = f.endpoint_same; toggle = f.toggle; buffers = f.buffers }
-    pick false = record { endpoint_same = f.endpoint_same; toggle = f.toggle; buffers = f.buffers }
+taken_same r n o =
+    let f = filled_same r (chosen Out r) o n in
+    choice (InSame r) (ltb n (filled r (chosen Out r) n).endpoint.maximum) _ _
+    (λ e. record { endpoint_same = f.endpoint_same; toggle = f.toggle; buffers = f.buffers })
+    (λ e. record { endpoint_same = f.endpoint_same; toggle = f.toggle; buffers = f.buffers })
 
 module _ (core : Core) (r : Record) where
   abbrev Keeps : Turn → Type 0
@@ -246,7 +242,7 @@ retry i r q h a x =
 -- ---- treating left 0 as used for a fresh zero-length IN buffer: it sends one empty packet, and is used when that is acknowledged
 
 pub empty_sends : (i base : ℕ) (r : Record) → is_halted r.condition ≡ false → buffer_of r (chosen In r) ≡ Armed base 0 0 false
-    → on_in i r ≡ record { after = with_next r (chosen In r); wait = wait.Acknowledge i (chosen In r) 0; store = Nowhere; says = Data r.toggles.in_side (base + 0) 0 }
+    → on_in i r ≡ record { after = with_next r (chosen In r); wait = wait.Acknowledge i (chosen In r) 0; store = None; says = Data r.toggles.in_side (base + 0) 0 }
 unfolding on_in sending active
 empty_sends i base r h e = let z : min r.endpoint.maximum 0 ≡ 0 = omega arith in rw (h, e, z)
 

@@ -23,6 +23,11 @@ use Rattle.bus.specs.Active.{active}
 use Rattle.bus.specs.Tokens.{is_halted, is_interrupt, on_setup, on_ping, sending, on_in}
 use Rattle.bus.specs.Data.{is_high, acceptance, taking, after_out, setting_up, after_setup}
 
+-- what holds of each of two answers where it is given holds of the one that is
+pub choice : {A : Type 0} (P : A → Type 0) (b : Bool) (x y : A) → (b ≡ true → P x) → (b ≡ false → P y) → P (cond b x y)
+choice P true x y f g = f refl
+choice P false x y f g = g refl
+
 flipped : (t o : Bool) → not (beq t o) ≡ true → t ≡ not o
 flipped true true e = absurd (false≢true e)
 flipped true false e = refl
@@ -57,11 +62,7 @@ module _ (r : Record) (Q : Turn → Type 0) where
 
     pub setup_by : SetupCases → Q (on_setup i r)
     unfolding on_setup
-    setup_by c = pick (is_control r.endpoint.kind) refl
-      where
-        pick : (b : Bool) → is_control r.endpoint.kind ≡ b → Q (cond b (waiting r (wait.Data i stage.Setup)) (noting r OutOfPlace))
-        pick true e = c.at_control e
-        pick false e = c.elsewhere
+    setup_by c = choice Q (is_control r.endpoint.kind) _ _ c.at_control (λ e. c.elsewhere)
 
     pub record InCases : Type 0 where
       pub in_stall : Q (saying r Stall)
@@ -86,13 +87,12 @@ module _ (r : Record) (Q : Turn → Type 0) where
 
     pub after_setup_by : AfterSetup → Q (after_setup r toggle n)
     unfolding after_setup
-    after_setup_by c = pick (not toggle && eqb n 8 && is_unused (buffer_of r false)) refl
+    after_setup_by c = choice Q (not toggle && eqb n 8 && is_unused (buffer_of r false)) _ _ taken (λ e. c.not_taken)
       where
-        pick : (b : Bool) → (not toggle && eqb n 8 && is_unused (buffer_of r false)) ≡ b → Q (cond b (setting_up r n) (noting r NotTaken))
-        pick true e =
+        taken : (not toggle && eqb n 8 && is_unused (buffer_of r false)) ≡ true → Q (setting_up r n)
+        taken e =
             let p = both (not toggle && eqb n 8) (is_unused (buffer_of r false)) e in
             c.setup_taken (eqb-true n 8 (both (not toggle) (eqb n 8) p.0).1) p.1
-        pick false e = c.not_taken
 
     pub record AfterOut (speed : Speed) : Type 0 where
       pub out_stall : Q (saying r Stall)
@@ -122,8 +122,5 @@ module _ (r : Record) (Q : Turn → Type 0) where
 -- what a stored payload is met with
 pub accepted_by : (P : Says → Type 0) → P Ack → P Nyet → (speed : Speed) (q : Record) → P (acceptance speed q)
 unfolding acceptance
-accepted_by P ack nyet speed q = pick (is_high speed && not (is_interrupt q.endpoint.transfer) && not (active Out q))
-  where
-    pick : (b : Bool) → P (cond b Nyet Ack)
-    pick true = nyet
-    pick false = ack
+accepted_by P ack nyet speed q =
+    choice P (is_high speed && not (is_interrupt q.endpoint.transfer) && not (active Out q)) Nyet Ack (λ e. nyet) (λ e. ack)

@@ -5,8 +5,8 @@ use mathlib.Core.Path.{◌≡◌, refl, sym, subst}
 use mathlib.Core.Bool.{Bool, true, false}
 use mathlib.Core.List.{List}
 use lib.ListN.{length, drop, length-take}
-use Rattle.wire.specs.declared.data.Verdict.{Verdict}
-use Rattle.wire.specs.declared.data.Verdict.TheVariants as verdict
+use Rattle.std.specs.Prelude.{Option, Some, None}
+use Rattle.wire.specs.declared.pid.Kind as pid
 use Rattle.wire.specs.Data.{stretch, verdict_of, payload_by, payload_of}
 use Rattle.wire.proofs.Reading.{passed}
 use Rattle.state.specs.declared.Record.{Record}
@@ -22,13 +22,12 @@ use Rattle.state.proofs.Kept.{buffer_sound}
 use Rattle.bus.specs.declared.active.Direction.TheVariants.{Out, In}
 use Rattle.bus.specs.declared.token.Asks.{Asks}
 use Rattle.bus.specs.declared.token.Asks.TheVariants as asks
-use Rattle.bus.specs.declared.turn.Store.{Store}
 use Rattle.bus.specs.declared.turn.Says.{Says}
 use Rattle.bus.specs.declared.turn.Turn.{Turn}
 use Rattle.bus.specs.declared.turn.Step.{Step}
 use Rattle.bus.specs.Active.{chosen, active, place_of, Roomy, acknowledged}
 use Rattle.bus.specs.Tokens.{direction_of, on_setup, on_ping, sending, on_in, turn_of}
-use Rattle.bus.specs.Data.{taken, taking, after_out, setting_up, after_setup, staged, data_turn}
+use Rattle.bus.specs.Data.{taken, taking, after_out, setting_up, after_setup, staged, sequenced, data_turn}
 use Rattle.bus.specs.Idle.{no_wait}
 use Rattle.bus.specs.Arrival.{data_step, packet_step, missed, run_out, timed_out, StoreWithin}
 use Rattle.bus.specs.Answers.{SaysWithin}
@@ -46,9 +45,9 @@ pub payload_short : (p : List ℕ) → length (payload_of p) ≤ 1024
 unfolding payload_of stretch
 payload_short p = go (verdict_of p) refl
   where
-    go : (v : Verdict) → verdict_of p ≡ v → length (payload_by v p) ≤ 1024
-    go verdict.NotGood e = omega arith
-    go (verdict.Good k) e =
+    go : (v : Option pid.Kind) → verdict_of p ≡ v → length (payload_by v p) ≤ 1024
+    go None e = omega arith
+    go (Some k) e =
         let m = (passed p e).most in
         let n = length-take (length p - 3) (drop 1 p) in
         omega (arith, m, n)
@@ -102,7 +101,7 @@ module _ (core : Core) (w : Sound core) (i : ℕ) where
     staged_within stage.Setup d toggle n = after_setup_within d.stage_fitting toggle n
     staged_within stage.Out d toggle n = after_out_within toggle n
 
-    pub store_within : (x : Stage) → DataWait r x → (y : Verdict) (n : ℕ) → StoreWithin (data_turn core.speed x r y n).store n M
+    pub store_within : (x : Stage) → DataWait r x → (y : Option pid.Kind) (n : ℕ) → StoreWithin (data_turn core.speed x r y n).store n M
     store_within x d y n =
         data_by core.speed x r y n (λ (t : Turn). StoreWithin t.store n M)
         (record { not_good = tt; out_of_place = tt; in_stage = λ toggle e. staged_within x d toggle n })
@@ -123,7 +122,7 @@ module _ (core : Core) (w : Sound core) (i : ℕ) where
           out_take = λ h a. accepted_by (λ (x : Says). SaysWithin x M) tt tt core.speed (taken r n);
         })
 
-    data_says : (x : Stage) (y : Verdict) (n : ℕ) → SaysWithin (data_turn core.speed x r y n).says M
+    data_says : (x : Stage) (y : Option pid.Kind) (n : ℕ) → SaysWithin (data_turn core.speed x r y n).says M
     data_says x y n =
         data_by core.speed x r y n (λ (t : Turn). SaysWithin t.says M)
         (record { not_good = tt; out_of_place = tt; in_stage = λ toggle e. staged_says x toggle n })
@@ -207,6 +206,10 @@ says_within core w p =
 pub said_within : (core : Core) → Sound core → (p : List ℕ) (x : Step) → x ≡ packet_step core p → (n : ℕ) → n ≡ core.memory_size → SaysWithin x.says n
 said_within core w p x e n m = rw (e, m) (says_within core w p)
 
+-- the same of a good packet's kind, and of the memory that was lent
+pub kind_store_within : (core : Core) → Sound core → (i : ℕ) (s : Stage) → WaitSound core (wait.Data i s) → (k : pid.Kind) (n m : ℕ) → m ≡ core.memory_size → StoreWithin (sequenced core.speed s (record_at core i) k n).store n m
+kind_store_within core w i s x k n m e = rw e (store_within core w i (awaiting core i s x) s x.1 (Some k) n)
+
 -- what a packet stores is of the memory
 pub packet_store_within : (core : Core) → Sound core → (p : List ℕ) → StoreWithin (packet_step core p).store (length (payload_of p)) core.memory_size
 unfolding data_step acknowledged
@@ -215,5 +218,5 @@ packet_store_within core w p =
     (record {
       awaited_data = λ i s e d x. store_within core w i (awaiting core i s x) s x.1 (verdict_of p) (length (payload_of p));
       awaited_ack = λ i b n e a x. tt;
-      idle = λ e. subst (λ (x : Store). StoreWithin x (length (payload_of p)) core.memory_size) (sym (idle_stores_nothing (timed_out core) (timeout_sound core w) p)) tt;
+      idle = λ e. subst (λ (x : Option ℕ). StoreWithin x (length (payload_of p)) core.memory_size) (sym (idle_stores_nothing (timed_out core) (timeout_sound core w) p)) tt;
     })

@@ -1,36 +1,32 @@
 -- What a bus call answers, by this paper's numbers.
-use Rattle.std.specs.Prelude.{ℕ, ◌+◌, ◌≤◌, Bool, true, false}
+use Rattle.std.specs.Prelude.{ℕ, ◌+◌, ◌≤◌, Bool, true, false, Result, Ok, Err}
+use Rattle.refusals.specs.declared.Refusal.{Refusal}
 use Rattle.bus.specs.declared.Answer.{Answer}
-use Rattle.bus.specs.declared.Answer.TheVariants.{Silent, Reply, Sof, Refused}
+use Rattle.bus.specs.declared.Answer.TheVariants.{Silent, Reply, Sof}
 use Rattle.bus.specs.declared.turn.Says.{Says}
 use Rattle.bus.specs.declared.turn.Says.TheVariants.{Silence, Ack, Nak, Stall, Nyet, Data, Frame}
-
 -- the refusal, 0 being done
-abbrev pub refusal : Answer → ℕ
-refusal Silent = 0
-refusal (Reply bytes) = 0
-refusal (Sof frame) = 0
-refusal (Refused n) = n
+pub use Rattle.refusals.specs.Refusals.{refusal}
 
 -- how many bytes the reply has; 0 is silent
-abbrev pub replied : Answer → ℕ
-replied Silent = 0
-replied (Reply bytes) = bytes
-replied (Sof frame) = 0
-replied (Refused n) = 0
+abbrev pub replied : Result Answer Refusal → ℕ
+replied (Ok Silent) = 0
+replied (Ok (Reply bytes)) = bytes
+replied (Ok (Sof frame)) = 0
+replied (Err why) = 0
 
 -- answered as SOF, and its frame number
-abbrev pub is_sof : Answer → Bool
-is_sof Silent = false
-is_sof (Reply bytes) = false
-is_sof (Sof frame) = true
-is_sof (Refused n) = false
+abbrev pub is_sof : Result Answer Refusal → Bool
+is_sof (Ok Silent) = false
+is_sof (Ok (Reply bytes)) = false
+is_sof (Ok (Sof frame)) = true
+is_sof (Err why) = false
 
-abbrev pub frame_number : Answer → ℕ
-frame_number Silent = 0
-frame_number (Reply bytes) = 0
-frame_number (Sof frame) = frame
-frame_number (Refused n) = 0
+abbrev pub frame_number : Result Answer Refusal → ℕ
+frame_number (Ok Silent) = 0
+frame_number (Ok (Reply bytes)) = 0
+frame_number (Ok (Sof frame)) = frame
+frame_number (Err why) = 0
 
 -- the answer to what is said, in so many bytes
 abbrev pub answer_of : Says → ℕ → Answer

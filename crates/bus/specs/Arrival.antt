@@ -1,5 +1,5 @@
 -- Document 01, "A packet arrives": a wait ends at any packet, and at the timeout call.
-use Rattle.std.specs.Prelude.{ℕ, ◌+◌, ◌≤◌, ◌≡◌, Bool, false, ◌&&◌, cond, List, eqb, length, get_or}
+use Rattle.std.specs.Prelude.{ℕ, ◌+◌, ◌≤◌, ◌≡◌, Bool, false, ◌&&◌, cond, List, eqb, length, get_or, Option, Some, None}
 use Rattle.wire.specs.declared.pid.Kind.TheVariants as pid
 use Rattle.wire.specs.Pid.{number, pid_byte}
 use Rattle.wire.specs.Data.{is_data_pid, verdict_of, payload_of}
@@ -10,12 +10,8 @@ use Rattle.state.specs.declared.Wait.TheVariants.{Nothing, Data, Acknowledge}
 use Rattle.state.specs.declared.Core.{Core}
 use Rattle.state.specs.Update.{record_at}
 use Rattle.state.specs.Sound.{WaitSound, wait_record, Sound}
-use Rattle.bus.specs.declared.search.Found.{Found}
-use Rattle.bus.specs.declared.search.Found.TheVariants.{Nowhere, At}
 use Rattle.bus.specs.declared.idle.Met.{Met}
 use Rattle.bus.specs.declared.idle.Met.TheVariants as met
-use Rattle.bus.specs.declared.turn.Store.{Store}
-use Rattle.bus.specs.declared.turn.Store.TheVariants as store
 use Rattle.bus.specs.declared.turn.Says.TheVariants.{Silence}
 use Rattle.bus.specs.declared.turn.Step.{Step}
 use Rattle.bus.specs.Turn.{noting, placed, unchanged}
@@ -76,15 +72,15 @@ packet_step core packet = cond (awaited core.wait packet) (fulfilled core packet
 
 -- ---- the record that a packet is served by
 
-abbrev pub met_at : Met → Found
-met_at met.Nothing = Nowhere
-met_at (met.Trouble event) = Nowhere
-met_at (met.Frame frame) = Nowhere
-met_at (met.Token asks i) = At i
+abbrev pub met_at : Met → Option ℕ
+met_at met.Nothing = None
+met_at (met.Trouble event) = None
+met_at (met.Frame frame) = None
+met_at (met.Token asks i) = Some i
 
-unfoldable pub served_at : Core → List ℕ → Found
+unfoldable pub served_at : Core → List ℕ → Option ℕ
 served_at core packet =
-    cond (awaited core.wait packet) (At (wait_record core.wait)) (met_at (meeting (timed_out core) packet))
+    cond (awaited core.wait packet) (Some (wait_record core.wait)) (met_at (meeting (timed_out core) packet))
 
 -- the core waits on the record
 abbrev pub WaitsOn : Wait → ℕ → Type 0
@@ -95,9 +91,9 @@ WaitsOn (Acknowledge i buffer sent) j = i ≡ j
 -- ---- what the inner functions are given
 
 -- the stretch of a store is of the memory
-abbrev pub StoreWithin : Store → ℕ → ℕ → Type 0
-StoreWithin store.Nowhere n M = Unit {0}
-StoreWithin (store.At place) n M = place + n ≤ M
+abbrev pub StoreWithin : Option ℕ → ℕ → ℕ → Type 0
+StoreWithin None n M = Unit {0}
+StoreWithin (Some place) n M = place + n ≤ M
 
 -- a sound core, and all its memory
 abbrev pub Ready : Core → ℕ → Type 0

@@ -1,11 +1,9 @@
 -- Document 01, "A packet arrives": data awaited.
-use Rattle.std.specs.Prelude.{ℕ, Bool, true, false, not, ◌&&◌, cond, [], ◌∷◌, ltb, eqb}
+use Rattle.std.specs.Prelude.{ℕ, Bool, true, false, not, ◌&&◌, cond, [], ◌∷◌, ltb, eqb, Option, Some, None}
 use Rattle.std.specs.Bool.{beq}
 use Rattle.laws.specs.Lists.{first_of}
 use Rattle.wire.specs.declared.pid.Kind.{Kind}
 use Rattle.wire.specs.declared.pid.Kind.TheVariants as pid
-use Rattle.wire.specs.declared.data.Verdict.{Verdict}
-use Rattle.wire.specs.declared.data.Verdict.TheVariants as verdict
 use Rattle.state.specs.declared.Speed.{Speed}
 use Rattle.state.specs.declared.Speed.TheVariants.{Full, High}
 use Rattle.state.specs.declared.Condition.TheVariants.{Normal}
@@ -17,7 +15,6 @@ use Rattle.state.specs.declared.Wait.TheVariants.{Nothing}
 use Rattle.state.specs.Update.{with_condition, with_events, with_toggles, noted, buffer_of}
 use Rattle.state.specs.Ranges.{is_unused}
 use Rattle.bus.specs.declared.active.Direction.TheVariants as direction
-use Rattle.bus.specs.declared.turn.Store.TheVariants.{At}
 use Rattle.bus.specs.declared.turn.Says.{Says}
 use Rattle.bus.specs.declared.turn.Says.TheVariants.{Ack, Nak, Stall, Nyet}
 use Rattle.bus.specs.declared.turn.Turn.{Turn}
@@ -51,7 +48,7 @@ taking speed r n =
     record {
       after = taken r n;
       wait = Nothing;
-      store = At (place_of (chosen_buffer direction.Out r));
+      store = Some (place_of (chosen_buffer direction.Out r));
       says = acceptance speed (taken r n);
     }
 
@@ -74,7 +71,7 @@ setting_up r n =
     record {
       after = with_condition (with_toggles (filled r false n) (record { out_side = true; in_side = true })) Normal;
       wait = Nothing;
-      store = At (place_of (buffer_of r false));
+      store = Some (place_of (buffer_of r false));
       says = Ack;
     }
 
@@ -108,6 +105,6 @@ sequenced speed stage r pid.Ping n = noting r OutOfPlace
 sequenced speed stage r pid.Reserved n = noting r OutOfPlace
 
 -- not good: event 1, silent
-abbrev pub data_turn : Speed → Stage → Record → Verdict → ℕ → Turn
-data_turn speed stage r verdict.NotGood n = noting r NotGood
-data_turn speed stage r (verdict.Good kind) n = sequenced speed stage r kind n
+abbrev pub data_turn : Speed → Stage → Record → Option Kind → ℕ → Turn
+data_turn speed stage r None n = noting r NotGood
+data_turn speed stage r (Some kind) n = sequenced speed stage r kind n

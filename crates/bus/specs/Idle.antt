@@ -1,11 +1,8 @@
 -- Document 01, "A packet arrives": no wait, in this order.
-use Rattle.std.specs.Prelude.{ℕ, cond, List, [], ◌∷◌, eqb}
+use Rattle.std.specs.Prelude.{ℕ, cond, List, [], ◌∷◌, eqb, Option, Some, None}
 use Rattle.wire.specs.declared.pid.Kind.{Kind}
 use Rattle.wire.specs.declared.pid.Kind.TheVariants as pid
-use Rattle.wire.specs.declared.pid.Pid.{Pid}
-use Rattle.wire.specs.declared.pid.Pid.TheVariants.{Checked, Failed}
 use Rattle.wire.specs.declared.token.Token as wire
-use Rattle.wire.specs.declared.token.Token.TheVariants.{Good, Bad}
 use Rattle.wire.specs.Pid.{pid_of}
 use Rattle.wire.specs.Token.{token_of}
 use Rattle.state.specs.declared.Speed.{Speed}
@@ -13,8 +10,6 @@ use Rattle.state.specs.declared.Speed.TheVariants.{Full, High}
 use Rattle.state.specs.declared.SystemEvent.TheVariants.{BadPid, BadToken, Unserved}
 use Rattle.state.specs.declared.Core.{Core}
 use Rattle.state.specs.Update.{record_at}
-use Rattle.bus.specs.declared.search.Found.{Found}
-use Rattle.bus.specs.declared.search.Found.TheVariants.{At, Nowhere}
 use Rattle.bus.specs.declared.token.Asks.{Asks}
 use Rattle.bus.specs.declared.token.Asks.TheVariants.{Out, Setup, Ping, In}
 use Rattle.bus.specs.declared.idle.Met.{Met}
@@ -27,25 +22,25 @@ use Rattle.bus.specs.Search.{found_in}
 use Rattle.bus.specs.Tokens.{direction_of, turn_of}
 
 -- an empty packet has no PID that passes its check
-abbrev pub first_pid : List ℕ → Pid
-first_pid [] = Failed
+abbrev pub first_pid : List ℕ → Option Kind
+first_pid [] = None
 first_pid (byte ∷ bytes) = pid_of byte
 
 -- no live record for number and direction (OUT, SETUP, PING look on the OUT side): event 22
-abbrev pub found_as : Asks → Found → Met
-found_as asks Nowhere = Trouble Unserved
-found_as asks (At i) = Token asks i
+abbrev pub found_as : Asks → Option ℕ → Met
+found_as asks None = Trouble Unserved
+found_as asks (Some i) = Token asks i
 
 -- OUT, IN, SETUP, PING not of 3 bytes or with wrong CRC5: event 20. Other address: nothing
-abbrev pub addressed : Core → Asks → wire.Token → Met
-addressed core asks Bad = Trouble BadToken
-addressed core asks (Good address endpoint frame) =
-    cond (eqb address core.address) (found_as asks (found_in endpoint (direction_of asks) core.records)) Nothing
+abbrev pub addressed : Core → Asks → Option wire.Token → Met
+addressed core asks None = Trouble BadToken
+addressed core asks (Some token) =
+    cond (eqb token.address core.address) (found_as asks (found_in token.endpoint (direction_of asks) core.records)) Nothing
 
 -- SOF not of 3 bytes or with wrong CRC5: event 20. SOF: answered as SOF with its frame number
-abbrev pub framed : wire.Token → Met
-framed Bad = Trouble BadToken
-framed (Good address endpoint frame) = Frame frame
+abbrev pub framed : Option wire.Token → Met
+framed None = Trouble BadToken
+framed (Some token) = Frame token.frame
 
 -- PING at full speed: nothing
 abbrev pub pinged : Core → Speed → List ℕ → Met
@@ -72,9 +67,9 @@ by_kind core pid.Split packet = Nothing
 by_kind core pid.Reserved packet = Nothing
 
 -- empty or wrong PID check: system event 21
-abbrev pub by_pid : Core → Pid → List ℕ → Met
-by_pid core Failed packet = Trouble BadPid
-by_pid core (Checked kind) packet = by_kind core kind packet
+abbrev pub by_pid : Core → Option Kind → List ℕ → Met
+by_pid core None packet = Trouble BadPid
+by_pid core (Some kind) packet = by_kind core kind packet
 
 -- what the packet is to the core
 unfoldable pub meeting : Core → List ℕ → Met

@@ -1,5 +1,5 @@
 -- Document 01, "A packet arrives": the tokens that are for a record.
-use Rattle.std.specs.Prelude.{ℕ, min, Bool, true, false, not, cond, [], ◌∷◌}
+use Rattle.std.specs.Prelude.{ℕ, min, Bool, true, false, not, cond, [], ◌∷◌, None}
 use Rattle.laws.specs.Lists.{first_of}
 use Rattle.state.specs.declared.Condition.{Condition}
 use Rattle.state.specs.declared.Condition.TheVariants.{Off, Normal, Halted}
@@ -13,7 +13,6 @@ use Rattle.state.specs.Update.{with_next}
 use Rattle.state.specs.Ranges.{is_control}
 use Rattle.bus.specs.declared.active.Direction.{Direction}
 use Rattle.bus.specs.declared.active.Direction.TheVariants as direction
-use Rattle.bus.specs.declared.turn.Store.TheVariants.{Nowhere}
 use Rattle.bus.specs.declared.turn.Says.TheVariants.{Ack, Nak, Stall, Data}
 use Rattle.bus.specs.declared.turn.Turn.{Turn}
 use Rattle.bus.specs.declared.token.Asks.{Asks}
@@ -66,7 +65,7 @@ sending i r =
     record {
       after = with_next r (chosen direction.In r);
       wait = wait.Acknowledge i (chosen direction.In r) (count_of r);
-      store = Nowhere;
+      store = None;
       says = Data r.toggles.in_side (place_of (chosen_buffer direction.In r)) (count_of r);
     }
 

@@ -1,5 +1,5 @@
 -- Document 01, "A packet arrives": what a packet brings about, in the record that it is for and in the core.
-use Rattle.std.specs.Prelude.{ℕ, ◌+◌, Bool, cond, List, [], ◌∷◌, ◌++◌, length, take, drop}
+use Rattle.std.specs.Prelude.{ℕ, ◌+◌, Bool, cond, List, [], ◌∷◌, ◌++◌, length, take, drop, Option, Some, None}
 use Rattle.wire.specs.declared.pid.Kind.TheVariants as pid
 use Rattle.wire.specs.Pid.{number, pid_byte}
 use Rattle.wire.specs.Data.{packet}
@@ -10,8 +10,6 @@ use Rattle.state.specs.declared.Wait.{Wait}
 use Rattle.state.specs.declared.Wait.TheVariants.{Nothing}
 use Rattle.state.specs.declared.Core.{Core}
 use Rattle.state.specs.Update.{with_events, noted, with_system_events, signalled, with_wait, with_record}
-use Rattle.bus.specs.declared.turn.Store.{Store}
-use Rattle.bus.specs.declared.turn.Store.TheVariants.{Nowhere, At}
 use Rattle.bus.specs.declared.turn.Says.{Says}
 use Rattle.bus.specs.declared.turn.Says.TheVariants.{Silence, Ack, Nak, Stall, Nyet, Data, Frame}
 use Rattle.bus.specs.declared.turn.Turn.{Turn}
@@ -23,9 +21,9 @@ use Rattle.bus.specs.declared.turn.Step.{Step}
 abbrev pub written : ℕ → List ℕ → List ℕ → List ℕ
 written place payload memory = take place memory ++ (payload ++ drop (place + length payload) memory)
 
-abbrev pub stored : Store → List ℕ → List ℕ → List ℕ
-stored Nowhere payload memory = memory
-stored (At place) payload memory = written place payload memory
+abbrev pub stored : Option ℕ → List ℕ → List ℕ → List ℕ
+stored None payload memory = memory
+stored (Some place) payload memory = written place payload memory
 
 -- under the toggle
 abbrev pub data_pid : Bool → ℕ
@@ -49,7 +47,7 @@ laid bytes reply = bytes ++ drop (length bytes) reply
 
 -- the record as it is, no wait
 abbrev pub saying : Record → Says → Turn
-saying r says = record { after = r; wait = Nothing; store = Nowhere; says = says }
+saying r says = record { after = r; wait = Nothing; store = None; says = says }
 
 -- a record event, silent
 abbrev pub noting : Record → RecordEvent → Turn
@@ -57,7 +55,7 @@ noting r event = saying (with_events r (noted r.events event)) Silence
 
 -- a wait, silent
 abbrev pub waiting : Record → Wait → Turn
-waiting r wait = record { after = r; wait = wait; store = Nowhere; says = Silence }
+waiting r wait = record { after = r; wait = wait; store = None; says = Silence }
 
 -- ---- the core's step
 
@@ -71,7 +69,7 @@ placed core i turn =
     }
 
 abbrev pub unchanged : Core → Says → Step
-unchanged core says = record { core = core; store = Nowhere; says = says }
+unchanged core says = record { core = core; store = None; says = says }
 
 -- a system event, silent
 abbrev pub signalling : Core → SystemEvent → Step

@@ -5,10 +5,10 @@ ghost use Rattle.bus.specs.Active.{is_in, serves, chosen, chosen_buffer, active,
 
 use crate::turn;
 use crate::turn::{Says, Turn};
-use state::{Descriptor, Kind, Record, RecordEvent, range, served, sound, update};
+use state::{Descriptor, Kind, Record, RecordEvent, Toggles, range, served, update};
 
 // OUT, SETUP and PING look on the OUT side.
-#[derive(Clone, Copy)]
+#[derive(Clone, Copy, Debug, PartialEq, Eq)]
 pub enum Direction {
     Out,
     In,
@@ -17,10 +17,7 @@ pub enum Direction {
 fn is_in(direction: Direction) -> bool
     ensures { result ≡ is_in direction }
 {
-    match direction {
-        Direction::Out => false,
-        Direction::In => true,
-    }
+    direction == Direction::In
 }
 
 pub(crate) fn serves(direction: Direction, kind: Kind) -> bool
@@ -36,9 +33,7 @@ pub(crate) fn serves(direction: Direction, kind: Kind) -> bool
 pub(crate) fn chosen(direction: Direction, r: Record) -> bool
     ensures { result ≡ chosen direction r }
 {
-    let endpoint = r.endpoint;
-    let kind = endpoint.kind;
-    if range::is_control(kind) {
+    if range::is_control(r.endpoint.kind) {
         return is_in(direction);
     }
     if range::is_armed(update::buffer_of(r, r.next)) {
@@ -65,7 +60,7 @@ pub(crate) fn left_of(d: Descriptor) -> u32
 {
     match d {
         Descriptor::Unallocated => 0,
-        Descriptor::Armed { length, done, .. } => sound::left_of(length, done),
+        Descriptor::Armed { length, done, .. } => length.saturating_sub(done),
     }
 }
 
@@ -90,15 +85,12 @@ fn grown(d: Descriptor, n: u32) -> Descriptor
             length,
             done,
             used,
-        } => {
-            let more = done + n;
-            Descriptor::Armed {
-                base,
-                length,
-                done: more,
-                used,
-            }
-        }
+        } => Descriptor::Armed {
+            base,
+            length,
+            done: done + n,
+            used,
+        },
     }
 }
 
@@ -136,46 +128,59 @@ fn used_up(r: Record, second: bool) -> Record
     ensures { result ≡ used_up r second }
 {
     let d = spent(update::buffer_of(r, second));
-    let events = r.events;
-    let after = update::noted(events, used_event(second));
-    update::with_next(
-        update::with_events(update::with_buffer(r, second, d), after),
-        !second,
-    )
+    Record {
+        events: update::noted(r.events, used_event(second)),
+        next: !second,
+        ..update::with_buffer(r, second, d)
+    }
 }
 
-// The record after n bytes were stored in the buffer.
-#[tactic(auto, unfolding(crate::specs::Active::filled))]
-pub(crate) fn filled(r: Record, second: bool, n: u32) -> Record
-    requires { Roomy r n }
-    ensures { result ≡ filled r second n }
-{
-    let d = grown(update::buffer_of(r, second), n);
-    let q = update::with_buffer(r, second, d);
-    if left_of(d) < r.endpoint.maximum {
-        return used_up(q, second);
+// A record and a number of bytes that either of its buffers has room to count.
+#[derive(Clone, Copy)]
+pub(crate) struct Load {
+    pub(crate) record: Record,
+    pub(crate) count: u32,
+    ghost roomy: { Roomy «record» count },
+}
+
+impl Load {
+    // The record after the bytes were stored in the buffer.
+    #[tactic(auto, unfolding(crate::specs::Active::filled))]
+    pub(crate) fn filled(self, second: bool) -> Record
+        ensures { result ≡ filled self.record second self.count }
+    {
+        let r = self.record;
+        let d = grown(update::buffer_of(r, second), self.count);
+        let q = update::with_buffer(r, second, d);
+        if left_of(d) < r.endpoint.maximum {
+            return used_up(q, second);
+        }
+        update::with_next(q, second)
     }
-    update::with_next(q, second)
+
+    // The record after the bytes that were sent from the buffer are acknowledged.
+    #[tactic(auto, unfolding(crate::specs::Active::acknowledged))]
+    pub(crate) fn acknowledged(self, second: bool) -> Turn
+        ensures { result ≡ acknowledged self.record second self.count }
+    {
+        let r = self.record;
+        let d = grown(update::buffer_of(r, second), self.count);
+        let q = flipped_in(update::with_buffer(r, second, d));
+        if left_of(d) == 0 {
+            return turn::saying(used_up(q, second), Says::Silence);
+        }
+        turn::saying(q, Says::Silence)
+    }
 }
 
 fn flipped_in(r: Record) -> Record
     ensures { result ≡ flipped_in r }
 {
-    let mut toggles = r.toggles;
-    toggles.in_side = !toggles.in_side;
-    update::with_toggles(r, toggles)
-}
-
-// The record after n bytes that were sent from the buffer are acknowledged.
-#[tactic(auto, unfolding(crate::specs::Active::acknowledged))]
-pub(crate) fn acknowledged(r: Record, second: bool, n: u32) -> Turn
-    requires { Roomy r n }
-    ensures { result ≡ acknowledged r second n }
-{
-    let d = grown(update::buffer_of(r, second), n);
-    let q = flipped_in(update::with_buffer(r, second, d));
-    if left_of(d) == 0 {
-        return turn::saying(used_up(q, second), Says::Silence);
+    Record {
+        toggles: Toggles {
+            in_side: !r.toggles.in_side,
+            ..r.toggles
+        },
+        ..r
     }
-    turn::saying(q, Says::Silence)
 }

@@ -2,13 +2,12 @@
 ghost use Rattle.std.specs.Prelude.{◌≡◌};
 ghost use Rattle.bus.specs.Idle.{first_pid, found_as, addressed, framed, pinged, by_kind, meeting, no_wait};
 
-use crate::search::Found;
 use crate::token::Asks;
 use crate::turn::{Says, Step};
 use crate::{search, token, turn};
 use state::{Core, Speed, SystemEvent, update};
 use wire::pid;
-use wire::pid::{Kind, Pid};
+use wire::pid::Kind;
 use wire::token::Token;
 
 // What a packet is to the core: nothing, an event, a frame, or a token for the record found.
@@ -20,51 +19,43 @@ pub enum Met {
     Token { asks: Asks, at: usize },
 }
 
-pub(crate) fn first_pid(packet: &[u8]) -> Pid
+pub(crate) fn first_pid(packet: &[u8]) -> Option<Kind>
     ensures { result ≡ first_pid packet.now }
 {
-    if packet.len() == 0 {
-        return Pid::Failed;
-    }
-    pid::read(packet[0])
+    pid::read(*packet.first()?)
 }
 
-fn found_as(asks: Asks, found: Found) -> Met
+fn found_as(asks: Asks, found: Option<usize>) -> Met
     ensures { result ≡ found_as asks found }
 {
     match found {
-        Found::Nowhere => Met::Trouble(SystemEvent::Unserved),
-        Found::At(at) => Met::Token { asks, at },
+        None => Met::Trouble(SystemEvent::Unserved),
+        Some(at) => Met::Token { asks, at },
     }
 }
 
-fn addressed(core: Core, asks: Asks, token: Token) -> Met
+fn addressed(core: Core, asks: Asks, token: Option<Token>) -> Met
     ensures { result ≡ addressed core asks token }
 {
-    match token {
-        Token::Bad => Met::Trouble(SystemEvent::BadToken),
-        Token::Good {
-            address,
-            endpoint,
-            ..
-        } => {
-            if (address as u32) != core.address {
-                return Met::Nothing;
-            }
-            found_as(
-                asks,
-                search::find(endpoint as u32, token::direction_of(asks), core),
-            )
-        }
+    let Some(token) = token else {
+        return Met::Trouble(SystemEvent::BadToken);
+    };
+    if u32::from(token.address) != core.address {
+        return Met::Nothing;
     }
+    let direction = token::direction_of(asks);
+    found_as(
+        asks,
+        search::find(u32::from(token.endpoint), direction, core),
+    )
 }
 
-fn framed(token: Token) -> Met
+fn framed(token: Option<Token>) -> Met
     ensures { result ≡ framed token }
 {
     match token {
-        Token::Bad => Met::Trouble(SystemEvent::BadToken),
-        Token::Good { frame, .. } => Met::Frame(frame),
+        None => Met::Trouble(SystemEvent::BadToken),
+        Some(token) => Met::Frame(token.frame),
     }
 }
 
@@ -86,21 +77,8 @@ fn by_kind(core: Core, kind: Kind, packet: &[u8]) -> Met
         Kind::In => addressed(core, Asks::In, wire::token::read(packet)),
         Kind::Setup => addressed(core, Asks::Setup, wire::token::read(packet)),
         Kind::Sof => framed(wire::token::read(packet)),
-        Kind::Ping => {
-            let speed = core.speed;
-            pinged(core, speed, packet)
-        }
-        Kind::Data0 => Met::Nothing,
-        Kind::Data1 => Met::Nothing,
-        Kind::Data2 => Met::Nothing,
-        Kind::Mdata => Met::Nothing,
-        Kind::Ack => Met::Nothing,
-        Kind::Nak => Met::Nothing,
-        Kind::Stall => Met::Nothing,
-        Kind::Nyet => Met::Nothing,
-        Kind::Pre => Met::Nothing,
-        Kind::Split => Met::Nothing,
-        Kind::Reserved => Met::Nothing,
+        Kind::Ping => pinged(core, core.speed, packet),
+        _ => Met::Nothing,
     }
 }
 
@@ -109,8 +87,8 @@ fn meeting(core: Core, packet: &[u8]) -> Met
     ensures { result ≡ meeting core packet.now }
 {
     match first_pid(packet) {
-        Pid::Failed => Met::Trouble(SystemEvent::BadPid),
-        Pid::Checked(kind) => by_kind(core, kind, packet),
+        None => Met::Trouble(SystemEvent::BadPid),
+        Some(kind) => by_kind(core, kind, packet),
     }
 }
 

@@ -1,5 +1,6 @@
 // The reply, laid from the first byte of the reply buffer.
 ghost use Rattle.std.specs.Prelude.{◌≡◌, [], ◌∷◌, ◌≤◌, ◌+◌, length, take, drop};
+ghost use Rattle.wire.specs.Pid.{number, pid_byte};
 ghost use Rattle.wire.specs.Data.{packet};
 ghost use Rattle.bus.specs.declared.Answer.TheVariants.{Reply};
 ghost use Rattle.bus.specs.Turn.{said, laid, data_pid};
@@ -8,10 +9,21 @@ ghost use Rattle.bus.specs.Answers.{answer_of, SaysWithin};
 use crate::Answer;
 use crate::turn::Says;
 use wire::data;
-use wire::data::Written;
+use wire::pid::Kind;
 
-fn shake(byte: u8, reply: &mut [u8]) -> Answer
-    requires { 1 ≤ length reply.old }
+// The byte of a PID: its number, and in the high four bits the complement.
+#[tactic(auto, unfolding(wire::specs::Pid::pid_byte), using(crate::proofs::Pids::four_bits))]
+pub(crate) fn byte_of(kind: Kind) -> u8
+    ensures { result ≡ pid_byte (number kind) }
+{
+    let number = u8::from(kind);
+    number + 16 * (15 - number)
+}
+
+// The least size of a reply buffer: PID, 1,024 bytes and their check.
+pub(crate) const LEAST: usize = 1027;
+
+fn shake(byte: u8, reply: &mut [u8; LEAST]) -> Answer
     ensures value { result ≡ Reply 1 }
     ensures reply { reply.new ≡ laid (byte ∷ []) reply.old }
 {
@@ -22,23 +34,28 @@ fn shake(byte: u8, reply: &mut [u8]) -> Answer
 fn data_pid(toggle: bool) -> u32
     ensures { result ≡ data_pid toggle }
 {
-    if toggle { 11 } else { 3 }
+    let kind = if toggle { Kind::Data1 } else { Kind::Data0 };
+    kind as u32
 }
 
-fn send(toggle: bool, payload: &[u8], reply: &mut [u8]) -> Answer
-    requires { (1027 ≤ length reply.old) × (length payload.now ≤ 1024) }
+#[tactic(auto, using(crate::proofs::Laying::sent, crate::proofs::Laying::sent_bytes))]
+fn send(toggle: bool, payload: &[u8], reply: &mut [u8; LEAST]) -> Answer
+    requires { length payload.now ≤ 1024 }
     ensures value { result ≡ Reply (length payload.now + 3) }
     ensures reply { reply.new ≡ laid (packet (data_pid toggle) payload.now) reply.old }
 {
-    match data::write(data_pid(toggle), payload, reply) {
-        Written::Packet(length) => Answer::Reply(length),
-        Written::Refused(number) => Answer::Refused(number),
-    }
+    Answer::Reply(data::write(data_pid(toggle), payload, reply).unwrap())
 }
 
 // So many bytes of the memory.
-fn send_from(toggle: bool, from: usize, count: usize, memory: &[u8], reply: &mut [u8]) -> Answer
-    requires { (1027 ≤ length reply.old) × (from + count ≤ length memory.now) × (count ≤ 1024) }
+fn send_from(
+    toggle: bool,
+    from: usize,
+    count: usize,
+    memory: &[u8],
+    reply: &mut [u8; LEAST],
+) -> Answer
+    requires { (from + count ≤ length memory.now) × (count ≤ 1024) }
     ensures value { result ≡ Reply (count + 3) }
     ensures reply { reply.new ≡ laid (packet (data_pid toggle) (take count (drop from memory.now))) reply.old }
 {
@@ -46,18 +63,18 @@ fn send_from(toggle: bool, from: usize, count: usize, memory: &[u8], reply: &mut
     send(toggle, &memory[from..end], reply)
 }
 
-#[tactic(auto, unfolding(wire::specs::Pid::pid_byte))]
-pub(crate) fn answered(says: Says, memory: &[u8], reply: &mut [u8]) -> Answer
-    requires { (1027 ≤ length reply.old) × SaysWithin says (length memory.now) }
+#[tactic(auto, using(crate::proofs::Laying::sent_length))]
+pub(crate) fn answered(says: Says, memory: &[u8], reply: &mut [u8; LEAST]) -> Answer
+    requires { SaysWithin says (length memory.now) }
     ensures value { result ≡ answer_of says (length (said says memory.now)) }
     ensures reply { reply.new ≡ laid (said says memory.now) reply.old }
 {
     match says {
         Says::Silence => Answer::Silent,
-        Says::Ack => shake(210, reply),
-        Says::Nak => shake(90, reply),
-        Says::Stall => shake(30, reply),
-        Says::Nyet => shake(150, reply),
+        Says::Ack => shake(byte_of(Kind::Ack), reply),
+        Says::Nak => shake(byte_of(Kind::Nak), reply),
+        Says::Stall => shake(byte_of(Kind::Stall), reply),
+        Says::Nyet => shake(byte_of(Kind::Nyet), reply),
         Says::Data {
             toggle,
             from,

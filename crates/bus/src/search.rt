@@ -6,37 +6,26 @@ use crate::active;
 use crate::active::Direction;
 use state::{Core, Record, range};
 
-#[derive(Clone, Copy)]
-pub enum Found {
-    At(usize),
-    Nowhere,
-}
-
 #[tactic(auto, unfolding(crate::specs::Search::served_by))]
 fn is_served_by(number: u32, direction: Direction, r: Record) -> bool
     ensures { result ≡ served_by number direction r }
 {
-    let condition = r.condition;
-    let endpoint = r.endpoint;
-    let kind = endpoint.kind;
-    range::is_live(condition) & (endpoint.number == number) & active::serves(direction, kind)
+    range::is_live(r.condition)
+        & (r.endpoint.number == number)
+        & active::serves(direction, r.endpoint.kind)
 }
 
-// Stops at the match.
+// Stops at the match by break, the form that document 01 names, which `found_in` states.
 #[tactic(auto, unfolding(crate::specs::Search::found_in))]
-pub(crate) fn find(number: u32, direction: Direction, core: Core) -> Found
+pub(crate) fn find(number: u32, direction: Direction, core: Core) -> Option<usize>
     ensures { result ≡ found_in number direction core.records }
 {
-    let mut i: usize = 0;
-    let found = loop {
-        if 15 < i {
-            break Found::Nowhere;
+    let mut found = None;
+    for (i, r) in core.records.iter().enumerate() {
+        if is_served_by(number, direction, *r) {
+            found = Some(i);
+            break;
         }
-        let r = core.records[i];
-        if is_served_by(number, direction, r) {
-            break Found::At(i);
-        }
-        i += 1;
-    };
+    }
     found
 }

@@ -3,12 +3,12 @@ ghost use Rattle.std.specs.Prelude.{◌≡◌};
 ghost use Rattle.bus.specs.Tokens.{direction_of, is_halted, is_interrupt, on_out, on_setup, on_ping, sending, on_in, turn_of};
 
 use crate::active::Direction;
-use crate::turn::{Says, Store, Turn};
+use crate::turn::{Says, Turn};
 use crate::{active, turn};
-use state::{Condition, Record, RecordEvent, Stage, Transfer, Wait, range, sound, update};
+use state::{Condition, Record, RecordEvent, Stage, Transfer, Wait, range, update};
 
 // What a token asks of a record.
-#[derive(Clone, Copy)]
+#[derive(Clone, Copy, Debug, PartialEq, Eq)]
 pub enum Asks {
     Out,
     Setup,
@@ -20,9 +20,7 @@ pub(crate) fn direction_of(asks: Asks) -> Direction
     ensures { result ≡ direction_of asks }
 {
     match asks {
-        Asks::Out => Direction::Out,
-        Asks::Setup => Direction::Out,
-        Asks::Ping => Direction::Out,
+        Asks::Out | Asks::Setup | Asks::Ping => Direction::Out,
         Asks::In => Direction::In,
     }
 }
@@ -30,21 +28,13 @@ pub(crate) fn direction_of(asks: Asks) -> Direction
 pub(crate) fn is_halted(condition: Condition) -> bool
     ensures { result ≡ is_halted condition }
 {
-    match condition {
-        Condition::Off => false,
-        Condition::Normal => false,
-        Condition::Halted => true,
-    }
+    condition == Condition::Halted
 }
 
 pub(crate) fn is_interrupt(transfer: Transfer) -> bool
     ensures { result ≡ is_interrupt transfer }
 {
-    match transfer {
-        Transfer::Control => false,
-        Transfer::Bulk => false,
-        Transfer::Interrupt => true,
-    }
+    transfer == Transfer::Interrupt
 }
 
 fn on_out(i: usize, r: Record) -> Turn
@@ -63,9 +53,7 @@ fn on_out(i: usize, r: Record) -> Turn
 fn on_setup(i: usize, r: Record) -> Turn
     ensures { result ≡ on_setup i r }
 {
-    let endpoint = r.endpoint;
-    let kind = endpoint.kind;
-    if range::is_control(kind) {
+    if range::is_control(r.endpoint.kind) {
         return turn::waiting(
             r,
             Wait::Data {
@@ -81,13 +69,10 @@ fn on_setup(i: usize, r: Record) -> Turn
 fn on_ping(r: Record) -> Turn
     ensures { result ≡ on_ping r }
 {
-    let endpoint = r.endpoint;
-    let transfer = endpoint.transfer;
-    let condition = r.condition;
-    if is_interrupt(transfer) {
+    if is_interrupt(r.endpoint.transfer) {
         return turn::noting(r, RecordEvent::OutOfPlace);
     }
-    if is_halted(condition) {
+    if is_halted(r.condition) {
         return turn::saying(r, Says::Stall);
     }
     if active::is_active(Direction::Out, r) {
@@ -102,8 +87,7 @@ fn sending(i: usize, r: Record) -> Turn
 {
     let buffer = active::chosen(Direction::In, r);
     let d = update::buffer_of(r, buffer);
-    let length = sound::smaller(r.endpoint.maximum, active::left_of(d));
-    let count = length as usize;
+    let length = r.endpoint.maximum.min(active::left_of(d));
     Turn {
         after: update::with_next(r, buffer),
         wait: Wait::Acknowledge {
@@ -111,11 +95,11 @@ fn sending(i: usize, r: Record) -> Turn
             buffer,
             length,
         },
-        store: Store::Nowhere,
+        store: None,
         says: Says::Data {
             toggle: r.toggles.in_side,
             from: active::place_of(d),
-            count,
+            count: length as usize,
         },
     }
 }
@@ -124,8 +108,7 @@ fn sending(i: usize, r: Record) -> Turn
 fn on_in(i: usize, r: Record) -> Turn
     ensures { result ≡ on_in i r }
 {
-    let condition = r.condition;
-    if is_halted(condition) {
+    if is_halted(r.condition) {
         return turn::saying(r, Says::Stall);
     }
     if !active::is_active(Direction::In, r) {

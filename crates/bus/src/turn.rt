@@ -4,13 +4,6 @@ ghost use Rattle.bus.specs.Turn.{saying, noting, waiting, placed, unchanged, sig
 
 use state::{Core, Record, RecordEvent, SystemEvent, Wait, update};
 
-// Where the payload is stored.
-#[derive(Clone, Copy)]
-pub enum Store {
-    Nowhere,
-    At(usize),
-}
-
 // What is said on the bus; a frame is not said there, the packet is answered as SOF.
 #[derive(Clone, Copy)]
 pub enum Says {
@@ -31,14 +24,15 @@ pub enum Says {
 pub struct Turn {
     pub after: Record,
     pub wait: Wait,
-    pub store: Store,
+    // The place that the payload is stored at, if any.
+    pub store: Option<usize>,
     pub says: Says,
 }
 
 #[derive(Clone, Copy)]
 pub struct Step {
     pub core: Core,
-    pub store: Store,
+    pub store: Option<usize>,
     pub says: Says,
 }
 
@@ -48,7 +42,7 @@ pub(crate) fn saying(r: Record, says: Says) -> Turn
     Turn {
         after: r,
         wait: Wait::Nothing,
-        store: Store::Nowhere,
+        store: None,
         says,
     }
 }
@@ -56,9 +50,11 @@ pub(crate) fn saying(r: Record, says: Says) -> Turn
 pub(crate) fn noting(r: Record, event: RecordEvent) -> Turn
     ensures { result ≡ noting r event }
 {
-    let events = r.events;
     saying(
-        update::with_events(r, update::noted(events, event)),
+        Record {
+            events: update::noted(r.events, event),
+            ..r
+        },
         Says::Silence,
     )
 }
@@ -69,7 +65,7 @@ pub(crate) fn waiting(r: Record, wait: Wait) -> Turn
     Turn {
         after: r,
         wait,
-        store: Store::Nowhere,
+        store: None,
         says: Says::Silence,
     }
 }
@@ -77,15 +73,10 @@ pub(crate) fn waiting(r: Record, wait: Wait) -> Turn
 pub(crate) fn placed(core: Core, i: usize, turn: Turn) -> Step
     ensures { result ≡ placed core i turn }
 {
-    let after = turn.after;
-    let wait = turn.wait;
-    let store = turn.store;
-    let says = turn.says;
-    let next = update::with_record_and_wait(core, i, after, wait);
     Step {
-        core: next,
-        store,
-        says,
+        core: update::with_record_and_wait(core, i, turn.after, turn.wait),
+        store: turn.store,
+        says: turn.says,
     }
 }
 
@@ -94,7 +85,7 @@ pub(crate) fn unchanged(core: Core, says: Says) -> Step
 {
     Step {
         core,
-        store: Store::Nowhere,
+        store: None,
         says,
     }
 }
@@ -102,7 +93,6 @@ pub(crate) fn unchanged(core: Core, says: Says) -> Step
 pub(crate) fn signalling(core: Core, event: SystemEvent) -> Step
     ensures { result ≡ signalling core event }
 {
-    let events = core.events;
-    let next = update::with_system_events(core, update::signalled(events, event));
-    unchanged(next, Says::Silence)
+    let events = update::signalled(core.events, event);
+    unchanged(update::with_system_events(core, events), Says::Silence)
 }

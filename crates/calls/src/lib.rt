@@ -4,9 +4,8 @@
 mod argument;
 mod forcing;
 mod line;
-mod named;
 mod reading;
+mod word;
 
-pub use line::{Call, Field, Forced, Lend, Line};
-pub use named::{record_events, system_events};
+pub use line::{Call, Field, Forced, Lent, Line};
 pub use reading::read;

@@ -1,6 +1,8 @@
 // What a line asks for.
 use frame::Frame;
-use state::{Condition, Descriptor, Endpoint, Kind, Speed, Transfer, Wait};
+use state::{
+    Condition, Descriptor, Endpoint, Kind, RecordEvents, Speed, SystemEvents, Transfer, Wait,
+};
 
 // A call of the firmware, with its arguments as written.
 #[derive(Clone, Copy)]
@@ -26,7 +28,7 @@ pub enum Field {
     Number(u32),
     Maximum(u32),
     Next(bool),
-    Events(u32),
+    Events(RecordEvents),
     OutToggle(bool),
     InToggle(bool),
 }
@@ -36,21 +38,21 @@ pub enum Field {
 pub enum Forced {
     Memory(u32),
     Address(u32),
-    Events(u32),
+    Events(SystemEvents),
     Wait(Wait),
     Record(u32, Field),
     Buffer(u32, bool, Descriptor),
     Frame(Frame),
 }
 
-// How many bytes the calls lend: the first M and 1,027, or what a line said.
+// How many bytes the calls lend of the memory and of the reply buffer.
 #[derive(Clone, Copy)]
-pub enum Lend {
-    Default,
-    Given(u32, u32),
+pub struct Lent {
+    pub memory: u32,
+    pub reply: u32,
 }
 
-// The bytes of packet, encode, decode and fill stand beside it.
+// The bytes of packet, encode, decode and fill stand beside it. Lend without numbers goes back to the first M and 1,027.
 #[derive(Clone, Copy)]
 pub enum Line {
     Firmware(Call),
@@ -59,11 +61,10 @@ pub enum Line {
     Frame(u32),
     Encode(u32),
     Decode,
-    Lend(Lend),
+    Lend(Option<Lent>),
     Fill(u32),
     Show(u32, u32),
     Reply(u32),
     State,
     Force(Forced),
-    Bad,
 }

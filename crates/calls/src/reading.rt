@@ -1,49 +1,25 @@
-// Lines by their first word. Each form has its number of words; any other line is bad.
+// Lines by their first word. Each form has its number of words; any other line asks for nothing.
 ghost use Rattle.std.specs.Prelude.{◌≡◌};
 ghost use Rattle.script.specs.Words.{words_of};
-ghost use Rattle.calls.specs.Script.{line_of, start_form, live_form, configure_form, arm_form, disarm_form, halt_form, clear_form, address_form, events_form, reset_form, packet_form, frame_form, encode_form, decode_form, lend_form, fill_form, show_form, reply_form};
+ghost use Rattle.calls.specs.Script.{line_of, live_form, configure_form, events_form, lend_form};
 
-use crate::argument::{KindWord, SpeedWord, TransferWord};
-use crate::line::{Call, Lend, Line};
-use crate::{argument, forcing};
-use script::Number;
+use crate::argument::{at_most, said, whole, with_bytes};
+use crate::forcing;
+use crate::line::{Call, Lent, Line};
+use crate::word::Verb;
 use state::{Condition, Endpoint, Kind, Transfer};
 
-fn start(line: &[u8]) -> Line
-    ensures { result ≡ start_form 1 (words_of line.now) }
-{
-    let SpeedWord::Speed(speed) = argument::speed(line, 1) else {
-        return Line::Bad;
-    };
-    let Number::Value(memory_size) = argument::number(line, 2) else {
-        return Line::Bad;
-    };
-    argument::whole(line, 3, Line::Firmware(Call::Start(speed, memory_size)))
-}
-
 // To normal or halted.
-fn configure_live(index: u32, condition: Condition, line: &[u8]) -> Line
+fn configure_live(index: u32, condition: Condition, line: &[u8]) -> Option<Line>
     ensures { result ≡ live_form index condition 3 (words_of line.now) }
 {
-    let KindWord::Kind(kind) = argument::kind(line, 3) else {
-        return Line::Bad;
-    };
-    let TransferWord::Transfer(transfer) = argument::transfer(line, 4) else {
-        return Line::Bad;
-    };
-    let Number::Value(number) = argument::number(line, 5) else {
-        return Line::Bad;
-    };
-    let Number::Value(maximum) = argument::number(line, 6) else {
-        return Line::Bad;
-    };
     let endpoint = Endpoint {
-        kind,
-        transfer,
-        number,
-        maximum,
+        kind: said(line, 3)?,
+        transfer: said(line, 4)?,
+        number: said(line, 5)?,
+        maximum: said(line, 6)?,
     };
-    argument::whole(
+    whole(
         line,
         7,
         Line::Firmware(Call::Configure(index, condition, endpoint)),
@@ -51,231 +27,90 @@ fn configure_live(index: u32, condition: Condition, line: &[u8]) -> Line
 }
 
 // To off no other argument stands.
-#[tactic(auto, unfolding(script::specs::Words::words_of))]
-fn configure(line: &[u8]) -> Line
+fn configure(line: &[u8]) -> Option<Line>
     ensures { result ≡ configure_form 1 (words_of line.now) }
 {
-    let Number::Value(index) = argument::number(line, 1) else {
-        return Line::Bad;
-    };
+    let index = said(line, 1)?;
+    let condition = said(line, 2)?;
+    if condition != Condition::Off {
+        return configure_live(index, condition, line);
+    }
     let endpoint = Endpoint {
         kind: Kind::Control,
         transfer: Transfer::Control,
         number: 0,
         maximum: 0,
     };
-    match script::place(script::word(line, 2), b"off normal halted") {
-        0 => argument::whole(
-            line,
-            3,
-            Line::Firmware(Call::Configure(index, Condition::Off, endpoint)),
-        ),
-        1 => configure_live(index, Condition::Normal, line),
-        2 => configure_live(index, Condition::Halted, line),
-        _ => Line::Bad,
-    }
-}
-
-fn arm(line: &[u8]) -> Line
-    ensures { result ≡ arm_form 1 (words_of line.now) }
-{
-    let Number::Value(index) = argument::number(line, 1) else {
-        return Line::Bad;
-    };
-    let Number::Value(buffer) = argument::number(line, 2) else {
-        return Line::Bad;
-    };
-    let Number::Value(base) = argument::number(line, 3) else {
-        return Line::Bad;
-    };
-    let Number::Value(length) = argument::number(line, 4) else {
-        return Line::Bad;
-    };
-    argument::whole(
+    whole(
         line,
-        5,
-        Line::Firmware(Call::Arm(index, buffer, base, length)),
+        3,
+        Line::Firmware(Call::Configure(index, condition, endpoint)),
     )
 }
 
-fn disarm(line: &[u8]) -> Line
-    ensures { result ≡ disarm_form 1 (words_of line.now) }
-{
-    let Number::Value(index) = argument::number(line, 1) else {
-        return Line::Bad;
-    };
-    let Number::Value(buffer) = argument::number(line, 2) else {
-        return Line::Bad;
-    };
-    argument::whole(line, 3, Line::Firmware(Call::Disarm(index, buffer)))
-}
-
-fn halt(line: &[u8]) -> Line
-    ensures { result ≡ halt_form 1 (words_of line.now) }
-{
-    let Number::Value(index) = argument::number(line, 1) else {
-        return Line::Bad;
-    };
-    argument::whole(line, 2, Line::Firmware(Call::Halt(index)))
-}
-
-fn clear(line: &[u8]) -> Line
-    ensures { result ≡ clear_form 1 (words_of line.now) }
-{
-    let Number::Value(index) = argument::number(line, 1) else {
-        return Line::Bad;
-    };
-    argument::whole(line, 2, Line::Firmware(Call::Clear(index)))
-}
-
-fn address(line: &[u8]) -> Line
-    ensures { result ≡ address_form 1 (words_of line.now) }
-{
-    let Number::Value(address) = argument::number(line, 1) else {
-        return Line::Bad;
-    };
-    argument::whole(line, 2, Line::Firmware(Call::Address(address)))
-}
-
 // Of a record, or of the system where no index stands.
-fn events(line: &[u8]) -> Line
+fn events(line: &[u8]) -> Option<Line>
     ensures { result ≡ events_form 1 (words_of line.now) }
 {
     if script::count(line) == 1 {
-        return Line::Firmware(Call::SystemEvents);
+        return Some(Line::Firmware(Call::SystemEvents));
     }
-    let Number::Value(index) = argument::number(line, 1) else {
-        return Line::Bad;
-    };
-    argument::whole(line, 2, Line::Firmware(Call::RecordEvents(index)))
+    whole(line, 2, Line::Firmware(Call::RecordEvents(said(line, 1)?)))
 }
 
-fn reset(line: &[u8]) -> Line
-    ensures { result ≡ reset_form 1 (words_of line.now) }
-{
-    let SpeedWord::Speed(speed) = argument::speed(line, 1) else {
-        return Line::Bad;
-    };
-    argument::whole(line, 2, Line::Firmware(Call::Reset(speed)))
-}
-
-fn frame(line: &[u8]) -> Line
-    ensures { result ≡ frame_form 1 (words_of line.now) }
-{
-    let Number::Value(n) = argument::number(line, 1) else {
-        return Line::Bad;
-    };
-    argument::whole(line, 2, Line::Frame(n))
-}
-
-fn lend(line: &[u8]) -> Line
+fn lend(line: &[u8]) -> Option<Line>
     ensures { result ≡ lend_form 1 (words_of line.now) }
 {
     if script::is(script::word(line, 1), b"default") {
-        return argument::whole(line, 2, Line::Lend(Lend::Default));
+        return whole(line, 2, Line::Lend(None));
     }
-    let Number::Value(memory) = argument::at_most(line, 1, 131072) else {
-        return Line::Bad;
-    };
-    let Number::Value(reply) = argument::at_most(line, 2, 1040) else {
-        return Line::Bad;
-    };
-    argument::whole(line, 3, Line::Lend(Lend::Given(memory, reply)))
+    let memory = at_most(line, 1, 131072)?;
+    let reply = at_most(line, 2, 1040)?;
+    whole(line, 3, Line::Lend(Some(Lent { memory, reply })))
 }
 
-fn show(line: &[u8]) -> Line
-    ensures { result ≡ show_form 1 (words_of line.now) }
-{
-    let Number::Value(base) = argument::number(line, 1) else {
-        return Line::Bad;
-    };
-    let Number::Value(length) = argument::at_most(line, 2, 4096) else {
-        return Line::Bad;
-    };
-    argument::whole(line, 3, Line::Show(base, length))
-}
-
-fn reply(line: &[u8]) -> Line
-    ensures { result ≡ reply_form 1 (words_of line.now) }
-{
-    let Number::Value(length) = argument::at_most(line, 1, 1040) else {
-        return Line::Bad;
-    };
-    argument::whole(line, 2, Line::Reply(length))
-}
-
-// Of these four the last word is bytes, where `given` says so.
-fn packet(line: &[u8], given: bool) -> Line
-    ensures { result ≡ packet_form given 1 (words_of line.now) }
-{
-    if given {
-        return argument::whole(line, 2, Line::Packet);
-    }
-    Line::Bad
-}
-
-fn decode(line: &[u8], given: bool) -> Line
-    ensures { result ≡ decode_form given 1 (words_of line.now) }
-{
-    if given {
-        return argument::whole(line, 2, Line::Decode);
-    }
-    Line::Bad
-}
-
-fn encode(line: &[u8], given: bool) -> Line
-    ensures { result ≡ encode_form given 1 (words_of line.now) }
-{
-    let Number::Value(pid) = argument::number(line, 1) else {
-        return Line::Bad;
-    };
-    if given {
-        return argument::whole(line, 3, Line::Encode(pid));
-    }
-    Line::Bad
-}
-
-fn fill(line: &[u8], given: bool) -> Line
-    ensures { result ≡ fill_form given 1 (words_of line.now) }
-{
-    let Number::Value(base) = argument::number(line, 1) else {
-        return Line::Bad;
-    };
-    if given {
-        return argument::whole(line, 3, Line::Fill(base));
-    }
-    Line::Bad
-}
-
-// By the first word, the arms in the order of the names. `given` says whether the last word is bytes.
-#[tactic(auto, unfolding(script::specs::Words::words_of, crate::specs::Script::line_of))]
-pub fn read(line: &[u8], given: bool) -> Line
+// Row by row. `given` says whether the last word is bytes.
+#[tactic(auto, unfolding(crate::specs::Script::line_of))]
+pub fn read(line: &[u8], given: bool) -> Option<Line>
     ensures { result ≡ line_of line.now given }
 {
-    match script::place(
-        script::word(line, 0),
-        b"start configure arm disarm halt clear address events reset packet timeout frame encode decode lend fill show reply state force",
-    ) {
-        0 => start(line),
-        1 => configure(line),
-        2 => arm(line),
-        3 => disarm(line),
-        4 => halt(line),
-        5 => clear(line),
-        6 => address(line),
-        7 => events(line),
-        8 => reset(line),
-        9 => packet(line, given),
-        10 => argument::whole(line, 1, Line::Timeout),
-        11 => frame(line),
-        12 => encode(line, given),
-        13 => decode(line, given),
-        14 => lend(line),
-        15 => fill(line, given),
-        16 => show(line),
-        17 => reply(line),
-        18 => argument::whole(line, 1, Line::State),
-        19 => forcing::force(line),
-        _ => Line::Bad,
+    match said(line, 0)? {
+        Verb::Start => whole(
+            line,
+            3,
+            Line::Firmware(Call::Start(said(line, 1)?, said(line, 2)?)),
+        ),
+        Verb::Configure => configure(line),
+        Verb::Arm => whole(
+            line,
+            5,
+            Line::Firmware(Call::Arm(
+                said(line, 1)?,
+                said(line, 2)?,
+                said(line, 3)?,
+                said(line, 4)?,
+            )),
+        ),
+        Verb::Disarm => whole(
+            line,
+            3,
+            Line::Firmware(Call::Disarm(said(line, 1)?, said(line, 2)?)),
+        ),
+        Verb::Halt => whole(line, 2, Line::Firmware(Call::Halt(said(line, 1)?))),
+        Verb::Clear => whole(line, 2, Line::Firmware(Call::Clear(said(line, 1)?))),
+        Verb::Address => whole(line, 2, Line::Firmware(Call::Address(said(line, 1)?))),
+        Verb::Events => events(line),
+        Verb::Reset => whole(line, 2, Line::Firmware(Call::Reset(said(line, 1)?))),
+        Verb::Packet => with_bytes(line, 2, given, Line::Packet),
+        Verb::Timeout => whole(line, 1, Line::Timeout),
+        Verb::Frame => whole(line, 2, Line::Frame(said(line, 1)?)),
+        Verb::Encode => with_bytes(line, 3, given, Line::Encode(said(line, 1)?)),
+        Verb::Decode => with_bytes(line, 2, given, Line::Decode),
+        Verb::Lend => lend(line),
+        Verb::Fill => with_bytes(line, 3, given, Line::Fill(said(line, 1)?)),
+        Verb::Show => whole(line, 3, Line::Show(said(line, 1)?, at_most(line, 2, 4096)?)),
+        Verb::Reply => whole(line, 2, Line::Reply(at_most(line, 1, 1040)?)),
+        Verb::State => whole(line, 1, Line::State),
+        Verb::Force => forcing::force(line),
     }
 }

@@ -7,12 +7,15 @@ use mathlib.Core.List.{List, []}
 use lib.Dec.{leb, eqb}
 use lib.ListN.{length}
 use borrow.Author.Tests.{leb-true, le-ltb}
+use Rattle.std.specs.Prelude.{Result, Ok, Err}
 use Rattle.laws.proofs.Bools.{both}
+use Rattle.refusals.specs.declared.Refusal.{Refusal}
 use Rattle.wire.specs.Data.{payload_of}
 use Rattle.state.specs.declared.Core.{Core}
+use Rattle.state.specs.declared.Outcome as state
 use Rattle.state.specs.Sound.{Sound}
 use Rattle.state.proofs.Tested.{passes}
-use Rattle.bus.specs.declared.Outcome as bus_call
+use Rattle.bus.specs.declared.Answer as bus
 use Rattle.bus.specs.declared.turn.Says.{Says}
 use Rattle.bus.specs.declared.turn.Says.TheVariants.{Silence, Ack, Nak, Stall, Nyet, Data, Frame}
 use Rattle.bus.specs.declared.turn.Step.{Step}
@@ -43,7 +46,7 @@ heard_said x payload lent = go x.says
     m : List ℕ
     m = stored x.store payload lent.memory
 
-    go : (s : Says) → sent_of (answer_of s (length (said s m))) (laid (said s m) lent.reply) ≡ said s m
+    go : (s : Says) → sent_of (Ok (answer_of s (length (said s m)))) (laid (said s m) lent.reply) ≡ said s m
     go Silence = refl
     go Ack = reply_first (said Ack m) lent.reply
     go Nak = reply_first (said Nak m) lent.reply
@@ -55,29 +58,29 @@ heard_said x payload lent = go x.says
 -- ---- accepted or refused
 
 module _ (core : Core) (lent : Lent) (p : List ℕ) where
-  abbrev refused_as : ℕ
+  abbrev refused_as : Result Unit Refusal
   refused_as = lend_refusal core lent.memory lent.reply
 
-  pub call_accepted : refused_as ≡ 0 → the_core core lent (Packet p) ≡ brought (packet_step core p) (payload_of p) lent
+  pub call_accepted : refused_as ≡ Ok tt → the_core core lent (Packet p) ≡ brought (packet_step core p) (payload_of p) lent
   call_accepted z = ap leaves (packet_accepted core lent.memory lent.reply p z)
 
-  pub call_refused : (refused_as ≡ 0 → ⊥) → the_core core lent (Packet p) ≡ leaves (kept refused_as core lent.memory lent.reply)
-  call_refused h = ap leaves (packet_refused core lent.memory lent.reply p h)
+  pub call_refused : (why : Refusal) → refused_as ≡ Err why → the_core core lent (Packet p) ≡ leaves (kept core lent.memory lent.reply why)
+  call_refused why e = ap leaves (packet_refused core lent.memory lent.reply p why e)
 
-  pub heard_accepted : refused_as ≡ 0 → heard (the_core core lent (Packet p)) ≡ bytes_of (packet_step core p) (payload_of p) lent.memory
+  pub heard_accepted : refused_as ≡ Ok tt → heard (the_core core lent (Packet p)) ≡ bytes_of (packet_step core p) (payload_of p) lent.memory
   heard_accepted z = ap heard (call_accepted z) ∙ heard_said (packet_step core p) (payload_of p) lent
 
-  pub heard_refused : (refused_as ≡ 0 → ⊥) → heard (the_core core lent (Packet p)) ≡ []
+  pub heard_refused : (why : Refusal) → refused_as ≡ Err why → heard (the_core core lent (Packet p)) ≡ []
   unfolding heard
-  heard_refused h = ap heard (call_refused h)
+  heard_refused why e = ap heard (call_refused why e)
 
-  pub memory_accepted : refused_as ≡ 0 → (the_core core lent (Packet p)).lent.memory ≡ stored (packet_step core p).store (payload_of p) lent.memory
+  pub memory_accepted : refused_as ≡ Ok tt → (the_core core lent (Packet p)).lent.memory ≡ stored (packet_step core p).store (payload_of p) lent.memory
   memory_accepted z = ap (λ (o : Outcome). o.lent.memory) (call_accepted z)
 
 -- ---- a sound state, and what refusals 2 and 3 ask
 
 module _ (core : Core) (lent : Lent) (w : Sound core) (l : lends core lent ≡ true) where
-  pub not_refused : lend_refusal core lent.memory lent.reply ≡ 0
+  pub not_refused : lend_refusal core lent.memory lent.reply ≡ Ok tt
   not_refused =
       let p = both (eqb (length lent.memory) core.memory_size) (leb 1027 (length lent.reply)) l in
       rw (passes core w, p.0, le-ltb (length lent.reply) 1027 (leb-true 1027 (length lent.reply) p.1))
@@ -89,4 +92,4 @@ module _ (core : Core) (lent : Lent) (w : Sound core) (l : lends core lent ≡ t
   packet_core p = sym (ap (λ (o : Outcome). o.core) (packet_brings p))
 
   pub timeout_core : timed_out core ≡ (the_core core lent Timeout).core
-  timeout_core = sym (ap (λ (o : bus_call.Outcome). o.core) (timeout_accepted core lent.memory lent.reply not_refused))
+  timeout_core = sym (ap (λ (o : state.Outcome bus.Answer). o.core) (timeout_accepted core lent.memory lent.reply not_refused))

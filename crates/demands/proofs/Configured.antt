@@ -6,10 +6,11 @@ use mathlib.Core.Bool.{true, ◌||◌}
 use mathlib.Core.List.{List}
 use lib.Dec.{leb}
 use lib.ListN.{length}
-use borrow.Author.Tests.{ltb-false, eq-eqb}
+use borrow.Author.Tests.{ltb-false}
 use Rattle.laws.specs.Lists.{all}
 use Rattle.laws.proofs.Bools.{neither}
-use Rattle.laws.proofs.First.{Passed, first, passed}
+use Rattle.laws.proofs.First.{Passed}
+use Rattle.refusals.proofs.Judging.{judged_when, number_passed, number_whenever}
 use Rattle.state.specs.declared.Condition.TheVariants.{Normal}
 use Rattle.state.specs.declared.Kind.TheVariants as kind
 use Rattle.state.specs.declared.Endpoint.{Endpoint}
@@ -19,13 +20,13 @@ use Rattle.state.specs.Update.{fresh, record_at, with_record}
 use Rattle.state.specs.Ranges.{is_armed}
 use Rattle.state.specs.Sound.{Sound}
 use Rattle.state.proofs.Updates.{record_given}
-use Rattle.firmware.specs.Answers.{judged, settled}
+use Rattle.firmware.specs.Answers.{settled}
 use Rattle.firmware.specs.Records.{waits_on, in_use, configure_tests, configure_of}
 use Rattle.firmware.proofs.Refusals.{configure_judges}
 use Rattle.demands.specs.Behaviour.{Lent, Configure, refusal, the_core}
 use Rattle.demands.specs.Host.{Setting}
 use Rattle.demands.specs.Demand3.{Fresh}
-use Rattle.demands.proofs.Rules.{call_sound}
+use Rattle.demands.proofs.Rules.{call_sound, by_number_same}
 
 -- the host of a record that was configured so
 abbrev pub host_of : Core → ℕ → Endpoint → List (List ℕ) → Setting
@@ -36,14 +37,13 @@ module _ (core : Core) (lent : Lent) (i : ℕ) (e : Endpoint) (payloads : List (
   unfolding configure_of settled in_use
   configured_fresh out w done none_above = subst (Fresh (host_of core i e payloads)) (sym left) begins
     where
-      zero : judged (configure_tests core i Normal e) ≡ 0
-      zero = first (configure_tests core i Normal e) 0 0 ((configure_judges core i Normal e).only_when 0 done)
+      tests : Passed (configure_tests core i Normal e)
+      tests =
+          number_passed (configure_tests core i Normal e)
+          (number_whenever (configure_tests core i Normal e) 0 ((configure_judges core i Normal e).only_when 0 (sym (by_number_same (configure_of core i Normal e).answer) ∙ done)))
 
       left : (the_core core lent (Configure i Normal e)).core ≡ with_record core i (fresh Normal e)
-      left = rw (eq-eqb (judged (configure_tests core i Normal e)) 0 zero)
-
-      tests : Passed (configure_tests core i Normal e)
-      tests = passed (configure_tests core i Normal e) (omega arith, (omega arith, (omega arith, (omega arith, (omega arith, tt))))) zero
+      left = rw (judged_when (configure_tests core i Normal e) tests)
 
       index : i < 16
       index = omega (arith, ltb-false 15 i tests.1.0)

@@ -6,6 +6,7 @@ use mathlib.Core.Bool.{Bool, true, false, ◌&&◌, cond, true≢false}
 use mathlib.Core.List.{List, [], ◌∷◌, ◌++◌}
 use lib.ListN.{length, take}
 use borrow.Author.Tests.{eq-eqb}
+use Rattle.std.specs.Prelude.{is_some}
 use Rattle.wire.specs.Data.{verdict_of}
 use Rattle.state.specs.declared.Record.{Record}
 use Rattle.state.specs.declared.Wait.{Wait}
@@ -18,7 +19,7 @@ use Rattle.bus.specs.declared.active.Direction.TheVariants.{Out}
 use Rattle.bus.specs.Active.{active}
 use Rattle.demands.specs.Behaviour.{Lent, Call, Packet, Timeout, Outcome, heard, the_core}
 use Rattle.demands.specs.Demand2.{lends, is_acceptance}
-use Rattle.demands.specs.Host.{Setting, odd, out_token, data_packet, Happening, Firmware, Late, TokenArrives, DataArrives, DamagedArrives, OtherArrives, on_hearing, Open, Nobody, This, Another, opens, is_good, is_this, is_another, World, next, after, waits_for_data, begin}
+use Rattle.demands.specs.Host.{Setting, odd, out_token, data_packet, Happening, Firmware, Late, TokenArrives, DataArrives, DamagedArrives, OtherArrives, on_hearing, Open, Nobody, This, Another, opens, is_this, is_another, World, next, after, waits_for_data, begin}
 use Rattle.demands.specs.Demand3.{Fresh, Allowed, AllAllowed, Finds, calls, whole, Demand3}
 use Rattle.demands.proofs.Rules.{call_sound}
 use Rattle.demands.proofs.OtherPackets.{Calm, Guarded, other_calm}
@@ -30,7 +31,7 @@ use Rattle.demands.proofs.OurData.{Awaited, repeated, unready, took}
 use Rattle.demands.proofs.Invariant.{Waits, Count, Invariant, goes_on, unstored, quietly, stored_one}
 
 -- behind the host's token no good data packet but its own arrives
-guarded : (s : Setting) (core : Core) (x : Open) (p : List ℕ) → Waits s.index x core.wait → (is_this x && is_good (verdict_of p)) ≡ false → Guarded s core p
+guarded : (s : Setting) (core : Core) (x : Open) (p : List ℕ) → Waits s.index x core.wait → (is_this x && is_some (verdict_of p)) ≡ false → Guarded s core p
 guarded s core Nobody p v e y f = absurd (true≢false (sym (ap waits_for_data f) ∙ v))
 guarded s core This p v e y f = e
 guarded s core Another p v e y f =

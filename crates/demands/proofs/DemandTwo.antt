@@ -1,12 +1,12 @@
 -- The cases of demand 2 hold of document 01's core: each is one row of its list, and what is heard is what the row says. Assumes nothing.
 use Prim.Native.Nat.{ℕ, ◌≤◌}
 use mathlib.Core.Path.{◌≡◌, refl, ◌∙◌, ap}
-use mathlib.Core.Bool.{Bool, true, false, beq}
+use mathlib.Core.Bool.{Bool, true, false}
 use mathlib.Core.List.{List}
 use lib.ListN.{length}
 use borrow.Author.Tests.{le-ltb}
-use Rattle.wire.specs.declared.data.Verdict.{Verdict}
-use Rattle.wire.specs.declared.data.Verdict.TheVariants as verdict
+use Rattle.std.specs.Prelude.{Option, Some, None}
+use Rattle.wire.specs.declared.pid.Kind.{Kind}
 use Rattle.wire.specs.Pid.{pid_byte}
 use Rattle.wire.specs.Data.{verdict_of, payload_of}
 use Rattle.state.specs.declared.Speed.{Speed}
@@ -30,32 +30,29 @@ use Rattle.bus.proofs.Cases.{kind_of_toggle}
 use Rattle.bus.proofs.Errors.{good_first, data_step_lem}
 use Rattle.demands.specs.Behaviour.{Lent, Outcome, the_core}
 use Rattle.demands.specs.Demand2.{is_acceptance, toggle_pid, InTurn, StoreCase, NakCase, NotGoodCase}
+use Rattle.demands.proofs.Spared.{toggle_stays}
 use Rattle.demands.proofs.BusCalls.{not_refused, bytes_of, brought, call_accepted, heard_accepted, memory_accepted}
 
 -- ---- the rows after OUT
 
-itself : (b : Bool) → beq b b ≡ true
-itself true = refl
-itself false = refl
-
 module _ (speed : Speed) (r : Record) (n : ℕ) (running : is_halted r.condition ≡ false) where
   takes : active Out r ≡ true → n ≤ r.endpoint.maximum → after_out speed r r.toggles.out_side n ≡ taking speed r n
   unfolding after_out
-  takes a h = rw (running, itself r.toggles.out_side, a, le-ltb r.endpoint.maximum n h)
+  takes a h = rw (running, toggle_stays r.toggles.out_side, a, le-ltb r.endpoint.maximum n h)
 
   no_buffer : active Out r ≡ false → after_out speed r r.toggles.out_side n ≡ saying r Nak
   unfolding after_out
-  no_buffer a = rw (running, itself r.toggles.out_side, a)
+  no_buffer a = rw (running, toggle_stays r.toggles.out_side, a)
 
 in_stage : (speed : Speed) (s : Stage) (r : Record) (toggle : Bool) (n : ℕ) → sequenced speed s r (kind_of_toggle toggle) n ≡ staged speed s r toggle n
 in_stage speed s r true n = refl
 in_stage speed s r false n = refl
 
 -- data awaited, and the verdict known
-by_verdict : (core : Core) (i : ℕ) (s : Stage) (p : List ℕ) (v : Verdict) → core.wait ≡ wait.Data i s → is_data_first p ≡ true → verdict_of p ≡ v → packet_step core p ≡ placed core i (data_turn core.speed s (record_at core i) v (length (payload_of p)))
+by_verdict : (core : Core) (i : ℕ) (s : Stage) (p : List ℕ) (v : Option Kind) → core.wait ≡ wait.Data i s → is_data_first p ≡ true → verdict_of p ≡ v → packet_step core p ≡ placed core i (data_turn core.speed s (record_at core i) v (length (payload_of p)))
 unfolding data_step
 by_verdict core i s p v e d f =
-    data_step_lem core i s p e d ∙ ap (λ (x : Verdict). placed core i (data_turn core.speed s (record_at core i) x (length (payload_of p)))) f
+    data_step_lem core i s p e d ∙ ap (λ (x : Option Kind). placed core i (data_turn core.speed s (record_at core i) x (length (payload_of p)))) f
 
 module _ (core : Core) (lent : Lent) (i : ℕ) (p : List ℕ) (t : InTurn core lent i p) where
   abbrev r : Record
@@ -63,7 +60,7 @@ module _ (core : Core) (lent : Lent) (i : ℕ) (p : List ℕ) (t : InTurn core l
 
   step : packet_step core p ≡ placed core i (after_out core.speed r r.toggles.out_side (length (payload_of p)))
   step =
-      by_verdict core i stage.Out p (verdict.Good (toggle_pid r)) t.waits (good_first p (toggle_pid r) t.under_toggle) t.under_toggle
+      by_verdict core i stage.Out p (Some (toggle_pid r)) t.waits (good_first p (toggle_pid r) t.under_toggle) t.under_toggle
       ∙ ap (placed core i) (in_stage core.speed stage.Out r r.toggles.out_side (length (payload_of p)))
 
 -- ---- the cases
@@ -92,5 +89,5 @@ nak_case core lent i p t a =
 
 pub not_good_case : NotGoodCase the_core
 not_good_case core lent i s p w l e d v =
-    let c = call_accepted core lent p (not_refused core lent w l) ∙ ap (λ (x : Step). brought x (payload_of p) lent) (by_verdict core i s p verdict.NotGood e d v) in
+    let c = call_accepted core lent p (not_refused core lent w l) ∙ ap (λ (x : Step). brought x (payload_of p) lent) (by_verdict core i s p None e d v) in
     (ap (λ (o : Outcome). o.answer) c, ap (λ (o : Outcome). o.lent) c)

@@ -1,42 +1,40 @@
 -- The done counts are what the history says, over every run: a start begins at 0, and each call keeps count and total alike. Assumes nothing.
 use Prim.Native.Nat.{ℕ, ◌+◌}
 use native.Mathlib.Omega.{arith}
-use native.Mathlib.Nat.{add-zero}
-use mathlib.Core.Path.{◌≡◌, refl, sym, ◌∙◌, ap₂, subst}
+use mathlib.Core.Path.{◌≡◌, refl, sym, ◌∙◌, ap, ap₂, subst}
 use mathlib.Core.Bool.{Bool, true, false, cond}
-use mathlib.Core.List.{List, [], ◌∷◌, ◌++◌}
+use mathlib.Core.List.{List, [], ◌∷◌}
 use lib.Dec.{eqb}
 use lib.ListN.{length}
-use borrow.Author.Tests.{eq-eqb, ne_eqb}
-use Rattle.laws.proofs.Bools.{dec_eq}
+use Rattle.std.specs.Prelude.{Result, Ok, Err}
+use Rattle.std.proofs.lemmas.List.Sums.{sum_by-append}
+use Rattle.refusals.specs.declared.Refusal.{Refusal}
 use Rattle.wire.specs.Data.{payload_of}
 use Rattle.state.specs.declared.Wait.{Wait}
 use Rattle.state.specs.declared.Wait.TheVariants as wait
 use Rattle.state.specs.declared.Core.{Core}
+use Rattle.state.specs.declared.Outcome as state
 use Rattle.state.specs.Sound.{Sound}
 use Rattle.firmware.proofs.KeepsSound.{start_sound}
-use Rattle.bus.specs.declared.Outcome as bus_call
+use Rattle.bus.specs.declared.Answer as bus
 use Rattle.bus.specs.Arrival.{timed_out}
 use Rattle.bus.specs.Calls.{lend_refusal, timeout_of}
 use Rattle.bus.proofs.Lent.{timeout_accepted, timeout_refused}
 use Rattle.demands.specs.Behaviour.{Lent, Call, Start, Configure, Arm, Disarm, SetHalt, ClearHalt, SetAddress, BusReset, RecordEvents, SystemEvents, Packet, Timeout, refusal, Outcome, heard, the_core, Given, run, run_from}
 use Rattle.demands.specs.History.{Ledger, blank, emptied, stores, acknowledges, added, told, noted, ledger, total, DoneByHistory}
-use Rattle.demands.proofs.Rules.{packet_refusal, call_sound, run_sound}
-use Rattle.demands.proofs.BusCalls.{call_refused}
+use Rattle.demands.proofs.Rules.{call_sound, run_sound}
+use Rattle.demands.proofs.BusCalls.{call_accepted, call_refused}
 use Rattle.demands.proofs.Counts.{timeout_same}
 use Rattle.demands.proofs.Gains.{gained, packet_gains}
-use Rattle.demands.proofs.LastSent.{Outstanding, none_outstanding, timeout_ends, packet_sent}
-use Rattle.demands.proofs.Telling.{Told, start_told, configure_told, arm_told, disarm_told, set_halt_told, clear_halt_told, set_address_told, bus_reset_told, record_events_told, system_events_told}
+use Rattle.demands.proofs.LastSent.{Outstanding, none_outstanding, packet_sent}
+use Rattle.demands.proofs.Late.{timeout_waits_not}
+use Rattle.demands.proofs.Telling.{not_done, Told, start_told, configure_told, arm_told, disarm_told, set_halt_told, clear_halt_told, set_address_told, bus_reset_told, record_events_told, system_events_told}
 use Rattle.demands.proofs.Standing.{stands}
 
 -- ---- the total of a ledger
 
-total_append : (xs ys : List (List ℕ)) → total (xs ++ ys) ≡ total xs + total ys
-total_append [] ys = omega arith
-total_append (x ∷ xs) ys = let e = total_append xs ys in omega (arith, e)
-
 one_or_none : (b : Bool) (x : List ℕ) (n : ℕ) → length x ≡ n → total (cond b (x ∷ []) []) ≡ cond b n 0
-one_or_none true x n e = add-zero (length x) ∙ e
+one_or_none true x n e = omega (arith, e)
 one_or_none false x n e = refl
 
 added_total : (i : ℕ) (k : Bool) (core : Core) (p answered sent : List ℕ) (v : Wait) → Outstanding v sent → total (added i k core v p answered sent) ≡ gained i k core v p answered
@@ -48,17 +46,17 @@ added_total i k core p answered sent (wait.Acknowledge j buffer n) s = one_or_no
 -- ---- a bus call
 
 module _ (core : Core) (w : Sound core) (lent : Lent) (i : ℕ) (k : Bool) (l : Ledger) (t : Told core i k l) where
-  abbrev refused_as : ℕ
+  abbrev refused_as : Result Unit Refusal
   refused_as = lend_refusal core lent.memory lent.reply
 
   module _ (p : List ℕ) where
     abbrev o : Outcome
     o = the_core core lent (Packet p)
 
-    packet_counted : refused_as ≡ 0 → Told o.core i k (told i k core (Packet p) (heard o) l)
+    packet_counted : refused_as ≡ Ok tt → Told o.core i k (told i k core (Packet p) (heard o) l)
     packet_counted z =
         record {
-          counted_is = packet_gains core w lent p i k z ∙ ap₂ (λ (a b : ℕ). a + b) t.counted_is (sym (added_total i k core p (heard o) l.sent core.wait t.sent_is)) ∙ sym (total_append l.counted (added i k core core.wait p (heard o) l.sent));
+          counted_is = packet_gains core w lent p i k z ∙ ap₂ (λ (a b : ℕ). a + b) t.counted_is (sym (added_total i k core p (heard o) l.sent core.wait t.sent_is)) ∙ sym (sum_by-append length l.counted (added i k core core.wait p (heard o) l.sent));
           sent_is = packet_sent core w lent p l.sent z;
         }
 
@@ -66,14 +64,17 @@ module _ (core : Core) (w : Sound core) (lent : Lent) (i : ℕ) (k : Bool) (l : 
     noted_as b = cond b (told i k core (Packet p) (heard o) l) l
 
     packet_told : Told o.core i k (noted i k core (Packet p) o l)
-    packet_told = pick (dec_eq refused_as 0)
+    packet_told = pick refused_as refl
       where
-        pick : Dec (refused_as ≡ 0) → Told o.core i k (noted_as (eqb (refusal o.answer) 0))
-        pick (yes z) =
-            subst (λ (b : Bool). Told o.core i k (noted_as b)) (sym (eq-eqb (refusal o.answer) 0 (packet_refusal core lent.memory lent.reply p ∙ z))) (packet_counted z)
-        pick (no h) =
-            subst (λ (b : Bool). Told o.core i k (noted_as b)) (sym (ne_eqb (refusal o.answer) 0 (λ e. h (sym (packet_refusal core lent.memory lent.reply p) ∙ e))))
-            (subst (λ (x : Outcome). Told x.core i k l) (sym (call_refused core lent p h)) t)
+        answered : Outcome → Bool
+        answered x = eqb (refusal x.answer) 0
+
+        pick : (r : Result Unit Refusal) → refused_as ≡ r → Told o.core i k (noted_as (answered o))
+        pick (Ok done) z =
+            subst (λ (b : Bool). Told o.core i k (noted_as b)) (sym (ap answered (call_accepted core lent p z))) (packet_counted z)
+        pick (Err why) e =
+            subst (λ (b : Bool). Told o.core i k (noted_as b)) (sym (ap answered (call_refused core lent p why e) ∙ not_done why))
+            (subst (λ (x : Outcome). Told x.core i k l) (sym (call_refused core lent p why e)) t)
 
   either_way : (b : Bool) → cond b l l ≡ l
   either_way true = refl
@@ -82,13 +83,13 @@ module _ (core : Core) (w : Sound core) (lent : Lent) (i : ℕ) (k : Bool) (l : 
   timeout_told : Told (the_core core lent Timeout).core i k (noted i k core Timeout (the_core core lent Timeout) l)
   timeout_told =
       subst (Told (the_core core lent Timeout).core i k) (sym (either_way (eqb (refusal (the_core core lent Timeout).answer) 0)))
-      (pick (dec_eq refused_as 0))
+      (pick refused_as refl)
     where
-      pick : Dec (refused_as ≡ 0) → Told (timeout_of core lent.memory lent.reply).core i k l
-      pick (yes z) =
-          subst (λ (x : bus_call.Outcome). Told x.core i k l) (sym (timeout_accepted core lent.memory lent.reply z))
-          (record { counted_is = timeout_same core w i k ∙ t.counted_is; sent_is = none_outstanding (timed_out core).wait l.sent (timeout_ends core) })
-      pick (no h) = subst (λ (x : bus_call.Outcome). Told x.core i k l) (sym (timeout_refused core lent.memory lent.reply h)) t
+      pick : (r : Result Unit Refusal) → refused_as ≡ r → Told (timeout_of core lent.memory lent.reply).core i k l
+      pick (Ok done) z =
+          subst (λ (x : state.Outcome bus.Answer). Told x.core i k l) (sym (timeout_accepted core lent.memory lent.reply z))
+          (record { counted_is = timeout_same core w i k ∙ t.counted_is; sent_is = none_outstanding (timed_out core).wait l.sent (timeout_waits_not core) })
+      pick (Err why) e = subst (λ (x : state.Outcome bus.Answer). Told x.core i k l) (sym (timeout_refused core lent.memory lent.reply why e)) t
 
   -- ---- every call
 

@@ -3,22 +3,27 @@ use Prim.Native.Nat.{ℕ, ◌<◌}
 use native.Mathlib.Omega.{arith}
 use mathlib.Core.Path.{◌≡◌, refl, sym, ◌∙◌, ap, subst}
 use mathlib.Core.Bool.{Bool, true, false, not, ◌&&◌, ◌||◌, cond, true≢false, false≢true}
+use mathlib.Core.List.{List, []}
 use lib.Dec.{eqb}
 use lib.ListN.{length}
 use borrow.Author.Tests.{eqb-true, eqb-false, not-true}
 use Rattle.laws.proofs.Bools.{both, dec_eq}
-use Rattle.laws.proofs.First.{passed}
+use Rattle.laws.proofs.First.{Passed}
+use Rattle.refusals.specs.declared.Refusal.{Refusal}
+use Rattle.refusals.specs.Refusals.{judged}
 use Rattle.state.specs.declared.Descriptor.{Descriptor}
 use Rattle.state.specs.declared.Descriptor.TheVariants.{Unallocated, Armed}
 use Rattle.state.specs.declared.Speed.TheVariants.{Full}
 use Rattle.state.specs.declared.Record.{Record}
 use Rattle.state.specs.declared.Core.{Core}
+use Rattle.state.specs.declared.Outcome as state
 use Rattle.state.specs.Update.{no_events, no_system_events, started, with_events, with_buffer, with_address, with_system_events, record_at, with_record}
 use Rattle.state.proofs.Updates.{record_given}
-use Rattle.firmware.specs.Answers.{accepted, refused, judged, settled}
-use Rattle.firmware.specs.Device.{set_address_of, system_events_of}
-use Rattle.firmware.specs.Records.{waits_on, configure_of, set_halt_of, clear_halt_of, record_events_of}
+use Rattle.firmware.specs.Answers.{settled}
+use Rattle.firmware.specs.Device.{address_tests, set_address_of, sound_tests, system_events_of}
+use Rattle.firmware.specs.Records.{waits_on, index_tests, configure_tests, configure_of, halt_tests, set_halt_of, clear_halt_of, record_events_of}
 use Rattle.firmware.specs.Buffers.{is_second, arm_tests, arm_of, disarm_tests, disarm_of}
+use Rattle.firmware.proofs.Refusals.{settled_by}
 use Rattle.bus.specs.declared.active.Direction.TheVariants.{Out}
 use Rattle.bus.specs.Active.{chosen, active}
 use Rattle.demands.specs.Behaviour.{Lent, Call, Start, Configure, Arm, Disarm, SetHalt, ClearHalt, SetAddress, BusReset, RecordEvents, SystemEvents, Packet, Timeout, Side, Anew, ByFirmware, OnBus, side_of, is_anew, is_by_firmware, refusal, the_core}
@@ -84,36 +89,30 @@ module _ (s : Setting) (core : Core) (plays : Plays s core) where
       pick (no n) = noted_at j q (λ e. absurd (n e))
 
   -- a call that is not refused gives the state after it, any other the state before it
-  settled_untouched : (n : ℕ) (after : Core) (number : ℕ) → (n ≡ 0 → Untouched i core after) → Untouched i core (settled n core after number).core
+  settled_untouched : (tests : List (Bool × Refusal)) (after : Core) (number : ℕ) → (Passed tests → Untouched i core after) → Untouched i core (settled (judged tests) core after number).core
   unfolding settled
-  settled_untouched n after number f = pick (eqb n 0) refl
-    where
-      pick : (b : Bool) → eqb n 0 ≡ b → Untouched i core (cond b (accepted after number) (refused core n)).core
-      pick true e = f (eqb-true n 0 e)
-      pick false e = same i core
+  settled_untouched tests after number f = settled_by (λ (o : state.Outcome ℕ). Untouched i core o.core) tests core after number f (λ why. same i core)
 
   spares_it : (lent : Lent) (c : Call) → spares s c ≡ true → Untouched i core (the_core core lent c).core
   unfolding configure_of arm_of disarm_of set_halt_of clear_halt_of set_address_of record_events_of system_events_of
   spares_it lent (Start M speed) e = absurd (false≢true e)
-  spares_it lent (Configure j condition x) e = settled_untouched _ _ 0 (λ z. elsewhere j _ e)
+  spares_it lent (Configure j condition x) e = settled_untouched (configure_tests core j condition x) _ 0 (λ p. elsewhere j _ e)
   spares_it lent (Arm j buffer base size) e =
-      settled_untouched (judged (arm_tests core j buffer base size)) _ 0
-      (λ z. let p = passed (arm_tests core j buffer base size) (omega arith, (omega arith, (omega arith, (omega arith, (omega arith, (omega arith, (omega arith, tt))))))) z in
-      buffer_given j (is_second buffer) (Armed base size 0 false) (armed_anew base size) (λ v a. arm_active (record_at core j) (is_second buffer) base size p.1.1.1.1.0 a))
+      settled_untouched (arm_tests core j buffer base size) _ 0
+      (λ p. buffer_given j (is_second buffer) (Armed base size 0 false) (armed_anew base size) (λ v a. arm_active (record_at core j) (is_second buffer) base size p.1.1.1.1.0 a))
   spares_it lent (Disarm j buffer) e =
-      settled_untouched (judged (disarm_tests core j buffer)) _ _
-      (λ z. let p = passed (disarm_tests core j buffer) (omega arith, (omega arith, (omega arith, (omega arith, (omega arith, (omega arith, tt)))))) z in
-      buffer_given j (is_second buffer) Unallocated disarmed (λ v a. absurd (true≢false (sym v ∙ p.1.1.0))))
-  spares_it lent (SetHalt j) e = settled_untouched _ _ 0 (λ z. elsewhere j _ e)
-  spares_it lent (ClearHalt j) e = settled_untouched _ _ 0 (λ z. elsewhere j _ e)
+      settled_untouched (disarm_tests core j buffer) _ _
+      (λ p. buffer_given j (is_second buffer) Unallocated disarmed (λ v a. absurd (true≢false (sym v ∙ p.1.1.0))))
+  spares_it lent (SetHalt j) e = settled_untouched (halt_tests core j) _ 0 (λ p. elsewhere j _ e)
+  spares_it lent (ClearHalt j) e = settled_untouched (halt_tests core j) _ 0 (λ p. elsewhere j _ e)
   spares_it lent (SetAddress address) e =
-      settled_untouched _ _ 0
-      (λ z. quiet_untouched i core (with_address core address) (record { same_address = eqb-true address s.address e ∙ sym plays.same_address; only_events = as_it_was (record_at core i) }) refl)
+      settled_untouched (address_tests core address) _ 0
+      (λ p. quiet_untouched i core (with_address core address) (record { same_address = eqb-true address s.address e ∙ sym plays.same_address; only_events = as_it_was (record_at core i) }) refl)
   spares_it lent (BusReset speed) e = absurd (false≢true e)
-  spares_it lent (RecordEvents j) e = settled_untouched _ _ _ (λ z. noted_at j (with_events (record_at core j) no_events) (λ f. (no_events, refl)))
+  spares_it lent (RecordEvents j) e = settled_untouched (index_tests core j []) _ _ (λ p. noted_at j (with_events (record_at core j) no_events) (λ f. (no_events, refl)))
   spares_it lent SystemEvents e =
-      settled_untouched _ _ _
-      (λ z. quiet_untouched i core (with_system_events core no_system_events) (record { same_address = refl; only_events = as_it_was (record_at core i) }) refl)
+      settled_untouched (sound_tests core) _ _
+      (λ p. quiet_untouched i core (with_system_events core no_system_events) (record { same_address = refl; only_events = as_it_was (record_at core i) }) refl)
   spares_it lent (Packet p) e = absurd (false≢true e)
   spares_it lent Timeout e = absurd (false≢true e)
 

@@ -1,6 +1,5 @@
 -- A packet moves a done count exactly as the history says: by the payload that is stored, or by the length whose ACK was awaited. Assumes nothing.
-use Prim.Native.Nat.{ℕ, ◌+◌, ◌<◌}
-use native.Mathlib.Omega.{arith}
+use Prim.Native.Nat.{ℕ, ◌+◌}
 use native.Mathlib.Nat.{add-zero}
 use mathlib.Core.Path.{◌≡◌, refl, sym, ◌∙◌, ap}
 use mathlib.Core.Logic.{inl, inr}
@@ -9,10 +8,8 @@ use mathlib.Core.List.{List}
 use lib.Dec.{eqb}
 use lib.ListN.{length}
 use borrow.Author.Tests.{eq-eqb, ne_eqb}
-use Rattle.laws.proofs.Bools.{dec_eq}
+use Rattle.std.specs.Prelude.{Option, Some, None, Ok}
 use Rattle.wire.specs.declared.pid.Kind.{Kind}
-use Rattle.wire.specs.declared.data.Verdict.{Verdict}
-use Rattle.wire.specs.declared.data.Verdict.TheVariants as verdict
 use Rattle.wire.specs.Data.{verdict_of, payload_of}
 use Rattle.state.specs.declared.Record.{Record}
 use Rattle.state.specs.declared.Stage.{Stage}
@@ -37,7 +34,7 @@ use Rattle.bus.proofs.Errors.{good_first}
 use Rattle.demands.specs.Behaviour.{Lent, Packet, Outcome, heard, the_core}
 use Rattle.demands.specs.Demand2.{is_acceptance}
 use Rattle.demands.specs.History.{is_good_as, expected, stores, acknowledges}
-use Rattle.demands.proofs.BusCalls.{bytes_of, call_accepted, call_refused, heard_accepted}
+use Rattle.demands.proofs.BusCalls.{bytes_of, call_accepted, heard_accepted}
 use Rattle.demands.proofs.Counts.{done, done_in, sends_armed, acknowledged_grows, token_same, each_after, same_after, timeout_same}
 use Rattle.demands.proofs.Taking.{Accounted, accounted}
 
@@ -69,9 +66,9 @@ unmoved a n b e = sym (add-zero a) ∙ ap (λ (x : Bool). a + cond x n 0) (sym e
 pub unread : (p : List ℕ) → is_data_first p ≡ false → (k : Kind) → is_good_as k (verdict_of p) ≡ false
 unread p f k = go (verdict_of p) refl
   where
-    go : (v : Verdict) → verdict_of p ≡ v → is_good_as k v ≡ false
-    go verdict.NotGood e = refl
-    go (verdict.Good k') e = absurd (true≢false (sym (good_first p k' e) ∙ f))
+    go : (v : Option Kind) → verdict_of p ≡ v → is_good_as k v ≡ false
+    go None e = refl
+    go (Some k') e = absurd (true≢false (sym (good_first p k' e) ∙ f))
 
 module _ (core : Core) (i : ℕ) (k : Bool) (p answered : List ℕ) where
   not_awaited : (v : Wait) → awaited v p ≡ false → gained i k core v p answered ≡ 0
@@ -153,34 +150,8 @@ module _ (core : Core) (w : Sound core) (lent : Lent) (p : List ℕ) (i : ℕ) (
   abbrev o : Outcome
   o = the_core core lent (Packet p)
 
-  pub packet_gains : lend_refusal core lent.memory lent.reply ≡ 0 → done_in o.core i k ≡ done_in core i k + gained i k core core.wait p (heard o)
+  pub packet_gains : lend_refusal core lent.memory lent.reply ≡ Ok tt → done_in o.core i k ≡ done_in core i k + gained i k core core.wait p (heard o)
   packet_gains z =
       ap (λ (x : Outcome). done_in x.core i k) (call_accepted core lent p z)
       ∙ step_moves core w p lent.memory i k
       ∙ ap (λ (l : List ℕ). done_in core i k + gained i k core core.wait p l) (sym (heard_accepted core lent p z))
-
--- why a done count grew
-pub data Grew (core : Core) (p answered : List ℕ) (i : ℕ) (k : Bool) : Type 0 where
-  by_store : (j : ℕ) (s : Stage) → core.wait ≡ wait.Data j s → stores i k core j s p answered ≡ true → Grew core p answered i k
-  by_acknowledge : (j : ℕ) (buffer : Bool) (sent : ℕ) → core.wait ≡ wait.Acknowledge j buffer sent → acknowledges i k j buffer p ≡ true → Grew core p answered i k
-
-gained_grew : (core : Core) (p answered : List ℕ) (i : ℕ) (k : Bool) (v : Wait) → core.wait ≡ v → 0 < gained i k core v p answered → Grew core p answered i k
-gained_grew core p answered i k wait.Nothing e h = absurd (omega (arith, h))
-gained_grew core p answered i k (wait.Data j s) e h = pick (stores i k core j s p answered) refl h
-  where
-    pick : (b : Bool) → stores i k core j s p answered ≡ b → 0 < cond b (length (payload_of p)) 0 → Grew core p answered i k
-    pick true f h = by_store j s e f
-    pick false f h = absurd (omega (arith, h))
-gained_grew core p answered i k (wait.Acknowledge j buffer sent) e h = pick (acknowledges i k j buffer p) refl h
-  where
-    pick : (b : Bool) → acknowledges i k j buffer p ≡ b → 0 < cond b sent 0 → Grew core p answered i k
-    pick true f h = by_acknowledge j buffer sent e f
-    pick false f h = absurd (omega (arith, h))
-
--- a packet that makes a done count larger stores or acknowledges, in the sense of the history
-pub grows_in : (core : Core) → Sound core → (lent : Lent) (p : List ℕ) (i : ℕ) (k : Bool) → done_in core i k < done_in (the_core core lent (Packet p)).core i k → Grew core p (heard (the_core core lent (Packet p))) i k
-grows_in core w lent p i k h = pick (dec_eq (lend_refusal core lent.memory lent.reply) 0)
-  where
-    pick : Dec (lend_refusal core lent.memory lent.reply ≡ 0) → Grew core p (heard (the_core core lent (Packet p))) i k
-    pick (yes z) = gained_grew core p _ i k core.wait refl (omega (arith, packet_gains core w lent p i k z, h))
-    pick (no f) = absurd (omega (arith, ap (λ (x : Outcome). done_in x.core i k) (call_refused core lent p f), h))

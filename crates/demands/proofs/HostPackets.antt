@@ -3,22 +3,19 @@ use Prim.Native.Nat.{ℕ, ◌+◌, ◌-◌, ◌*◌, ◌/◌, ◌%◌, ◌≤◌
 use native.Mathlib.Nat.{mod-lt, zero-lt-suc}
 use native.Mathlib.Omega.{arith}
 use mathlib.Core.Path.{◌≡◌, refl, sym, ◌∙◌, ap}
-use mathlib.Core.Bool.{Bool, true, false, not, ◌&&◌, ◌||◌, cond, false≢true, true≢false}
+use mathlib.Core.Bool.{Bool, true, false, not, ◌&&◌, ◌||◌, true≢false}
 use mathlib.Core.List.{List, [], ◌∷◌}
 use lib.Dec.{eqb}
 use lib.ListN.{length, take, drop, replicate, length-append, length-replicate}
 use lib.Seq.{take_at}
 use borrow.Author.Tests.{eqb-true, eq-eqb, not-true}
+use Rattle.std.specs.Prelude.{Option, Some, None, is_some, Result}
+use Rattle.std.proofs.lemmas.Option.{none-some, cond_some}
 use Rattle.laws.proofs.Bools.{both}
+use Rattle.refusals.specs.declared.Refusal.{Refusal}
 use Rattle.wire.specs.declared.pid.Kind.{Kind}
 use Rattle.wire.specs.declared.pid.Kind.TheVariants as pid
-use Rattle.wire.specs.declared.pid.Pid.{Pid}
-use Rattle.wire.specs.declared.pid.Pid.TheVariants.{Checked, Failed}
 use Rattle.wire.specs.declared.token.Token.{Token}
-use Rattle.wire.specs.declared.token.Token.TheVariants as token
-use Rattle.wire.specs.declared.data.Verdict.{Verdict}
-use Rattle.wire.specs.declared.data.Verdict.TheVariants as verdict
-use Rattle.wire.specs.declared.data.Written.{Written}
 use Rattle.wire.specs.Crc.{crc5, check}
 use Rattle.wire.specs.Pid.{number, kind_of, is_data, low, high, pid_of, pid_byte}
 use Rattle.wire.specs.Token.{word, token_of}
@@ -28,36 +25,25 @@ use Rattle.wire.proofs.RoundTrip.{ReadsBack, round_trip}
 use Rattle.bus.specs.Idle.{first_pid}
 use Rattle.bus.specs.Arrival.{is_data_first, is_ack}
 use Rattle.bus.proofs.Cases.{kind_of_toggle}
-use Rattle.demands.specs.Host.{Setting, token_bits, out_token, for_address, for_endpoint, pid_is, is_our_token, opens, is_good, is_good_token, fails}
+use Rattle.demands.specs.Host.{Setting, token_bits, out_token, for_address, for_endpoint, pid_is, is_our_token, opens, fails}
 
 -- ---- a checked PID is its byte
 
-no_kind : (k : Kind) → Failed ≡ Checked k → ⊥
-no_kind k e = false≢true (ap checked e)
-  where
-    checked : Pid → Bool
-    checked Failed = false
-    checked (Checked k) = true
-
-pid_byte_lem : (b : ℕ) (k : Kind) → pid_of b ≡ Checked k → b ≡ pid_byte (number k)
+pid_byte_lem : (b : ℕ) (k : Kind) → pid_of b ≡ Some k → b ≡ pid_byte (number k)
 unfolding pid_of pid_byte
 pid_byte_lem b k e =
     let is_low : number k ≡ b % 16 = ap number (sym (checked_kind b e)) ∙ number_kind (b % 16) (mod-lt b (zero-lt-suc 15)) in
-    let is_high_lem : b / 16 ≡ 15 - b % 16 = eqb-true (high b) (15 - low b) (pick (eqb (high b) (15 - low b)) e) in
+    let is_high_lem : b / 16 ≡ 15 - b % 16 = eqb-true (high b) (15 - low b) (cond_some (eqb (high b) (15 - low b)) (kind_of (low b)) k e).0 in
     omega arith
-  where
-    pick : (c : Bool) → cond c (Checked (kind_of (low b))) Failed ≡ Checked k → c ≡ true
-    pick true f = refl
-    pick false f = absurd (no_kind k f)
 
-pub pid_is_lem : (p : List ℕ) (k : Kind) → first_pid p ≡ Checked k → pid_is k p ≡ true
-pid_is_lem [] k e = absurd (no_kind k e)
+pub pid_is_lem : (p : List ℕ) (k : Kind) → first_pid p ≡ Some k → pid_is k p ≡ true
+pid_is_lem [] k e = absurd (none-some k e)
 pid_is_lem (b ∷ p) k e = eq-eqb b (pid_byte (number k)) (pid_byte_lem b k e)
 
 -- ---- the host's OUT token
 
 module _ (s : Setting) where
-  pub token_first : first_pid (out_token s) ≡ Checked pid.Out
+  pub token_first : first_pid (out_token s) ≡ Some pid.Out
   unfolding out_token pid_of pid_byte kind_of
   token_first = refl
 
@@ -69,7 +55,7 @@ module _ (s : Setting) where
   unfolding is_ack out_token
   token_no_ack = refl
 
-  pub token_reads : s.address ≤ 127 → s.endpoint ≤ 15 → token_of (out_token s) ≡ token.Good s.address s.endpoint (s.address + 128 * s.endpoint)
+  pub token_reads : s.address ≤ 127 → s.endpoint ≤ 15 → token_of (out_token s) ≡ Some (record { address = s.address; endpoint = s.endpoint; frame = s.address + 128 * s.endpoint })
   unfolding out_token token_of check
   token_reads a n =
       let t = s.address + 128 * s.endpoint in
@@ -102,7 +88,7 @@ module _ (n : ℕ) (payload : List ℕ) (d : is_data (kind_of n) ≡ true) (shor
   unfolding buffer_after packet
   in_front_lem =
       let size : length (packet n payload) ≡ length payload + 3 = simp length-append (omega arith) in
-      ap (λ (w : Written). take (length payload + 3) (buffer_by w n payload blank)) laid.written
+      ap (λ (w : Result ℕ Refusal). take (length payload + 3) (buffer_by w n payload blank)) laid.written
       ∙ take_at (packet n payload) (drop (length payload + 3) blank) (length payload + 3) size
 
 pub data_first : (toggle : Bool) (payload : List ℕ) → is_data_first (packet (number (kind_of_toggle toggle)) payload) ≡ true
@@ -124,10 +110,10 @@ module _ (toggle : Bool) (payload : List ℕ) (short : length payload ≤ 1024) 
   abbrev n : ℕ
   n = number (kind_of_toggle toggle)
 
-  pub data_reads : verdict_of (packet n payload) ≡ verdict.Good (kind_of_toggle toggle)
+  pub data_reads : verdict_of (packet n payload) ≡ Some (kind_of_toggle toggle)
   data_reads =
       ap verdict_of (sym (in_front_lem n payload (is_data_lem toggle) short)) ∙ (laid n payload (is_data_lem toggle) short).verdict_back
-      ∙ ap verdict.Good (kind_number (kind_of_toggle toggle))
+      ∙ ap Some (kind_number (kind_of_toggle toggle))
 
   pub data_payload : payload_of (packet n payload) ≡ payload
   data_payload = ap payload_of (sym (in_front_lem n payload (is_data_lem toggle) short)) ∙ (laid n payload (is_data_lem toggle) short).payload_back
@@ -138,8 +124,8 @@ module _ (toggle : Bool) (payload : List ℕ) (short : length payload ≤ 1024) 
 pub record Failing (s : Setting) (p : List ℕ) : Type 0 where
   pub not_ours : is_our_token s p ≡ false
   pub opens_none : opens s p ≡ false
-  pub not_good : is_good (verdict_of p) ≡ false
-  pub no_token : is_good_token (token_of p) ≡ false
+  pub not_good : is_some (verdict_of p) ≡ false
+  pub no_token : is_some (token_of p) ≡ false
 
 pub failing : (s : Setting) (p : List ℕ) → fails p ≡ true → Failing s p
 unfolding fails is_our_token opens
@@ -147,21 +133,21 @@ failing s p e =
     record {
       not_ours = unread (pid_is pid.Out p) (for_endpoint s) refl (token_of p) bad;
       opens_none = unread (pid_is pid.Out p || pid_is pid.Setup p) (for_address s) refl (token_of p) bad;
-      not_good = not-true (is_good (verdict_of p)) parts.0;
+      not_good = not-true (is_some (verdict_of p)) parts.0;
       no_token = bad;
     }
   where
-    parts : (not (is_good (verdict_of p)) ≡ true) × (not (is_good_token (token_of p)) ≡ true)
-    parts = both (not (is_good (verdict_of p))) (not (is_good_token (token_of p))) e
+    parts : (not (is_some (verdict_of p)) ≡ true) × (not (is_some (token_of p)) ≡ true)
+    parts = both (not (is_some (verdict_of p))) (not (is_some (token_of p))) e
 
-    bad : is_good_token (token_of p) ≡ false
-    bad = not-true (is_good_token (token_of p)) parts.1
+    bad : is_some (token_of p) ≡ false
+    bad = not-true (is_some (token_of p)) parts.1
 
-    unread : (b : Bool) (f : Token → Bool) → f token.Bad ≡ false → (t : Token) → is_good_token t ≡ false → (b && f t) ≡ false
-    unread true f z token.Bad g = z
-    unread false f z token.Bad g = refl
-    unread b f z (token.Good a n k) g = absurd (true≢false g)
+    unread : (b : Bool) (f : Option Token → Bool) → f None ≡ false → (t : Option Token) → is_some t ≡ false → (b && f t) ≡ false
+    unread true f z None g = z
+    unread false f z None g = refl
+    unread b f z (Some t) g = absurd (true≢false g)
 
-pub verdict_not_good : (v : Verdict) → is_good v ≡ false → v ≡ verdict.NotGood
-verdict_not_good verdict.NotGood e = refl
-verdict_not_good (verdict.Good k) e = absurd (true≢false e)
+pub verdict_not_good : (v : Option Kind) → is_some v ≡ false → v ≡ None
+verdict_not_good None e = refl
+verdict_not_good (Some k) e = absurd (true≢false e)

@@ -2,9 +2,10 @@
 use mathlib.Core.Path.{◌≡◌, refl, ◌∙◌, ap}
 use mathlib.Core.Bool.{Bool, true, false, ◌&&◌, cond}
 use mathlib.Core.List.{List, [], ◌∷◌, ◌++◌}
+use Rattle.std.specs.Prelude.{is_some}
 use Rattle.wire.specs.Data.{verdict_of}
 use Rattle.demands.specs.Behaviour.{Lent, Call, Behaviour}
-use Rattle.demands.specs.Host.{Setting, Happening, Firmware, TokenArrives, OtherArrives, Open, Nobody, This, Another, opens, is_good, is_this, is_another, World, next, after, waits_for_data, begin}
+use Rattle.demands.specs.Host.{Setting, Happening, Firmware, TokenArrives, OtherArrives, Open, Nobody, This, Another, opens, is_this, is_another, World, next, after, waits_for_data, begin}
 use Rattle.demands.specs.Demand3.{Allowed, AllAllowed, calls, Demand3}
 use Rattle.demands.specs.Exchange.{Fate, Arrives, Lost, Fails, Exchange, token_part, data_part, Rest, Done, Follows, CutShort, rest_part, Remainder, remaining, Episode, Ours, Theirs, Calls, played, episodes, trace, FailsCheck, Closed, Fair, AllFair, AllProper, Demand3InWords}
 use Rattle.demands.proofs.HostPackets.{failing}
@@ -79,9 +80,9 @@ module _ (B : Behaviour) (s : Setting) where
   rest_ends : (opened : Bool) (r : Rest) (w : World) → Closed s opened r → w.exchange ≡ cond opened Another Nobody → AllProper B s w (rest_part r) → Ends w (rest_part r)
   rest_ends opened Done w c e p = record { allowed = tt; closed = e ∙ rw c }
   rest_ends opened (Follows q l) w c e p =
-      record { allowed = ((p.0, c.0, ap (λ (o : Open). is_this o && is_good (verdict_of q)) e ∙ not_this opened), tt); closed = rw c.1 }
+      record { allowed = ((p.0, c.0, ap (λ (o : Open). is_this o && is_some (verdict_of q)) e ∙ not_this opened), tt); closed = rw c.1 }
     where
-      not_this : (b : Bool) → (is_this (cond b Another Nobody) && is_good (verdict_of q)) ≡ false
+      not_this : (b : Bool) → (is_this (cond b Another Nobody) && is_some (verdict_of q)) ≡ false
       not_this true = refl
       not_this false = refl
   rest_ends opened (CutShort l) w c e p = record { allowed = (p.0, tt); closed = refl }

@@ -6,7 +6,8 @@ use mathlib.Core.Bool.{Bool, cond}
 use mathlib.Core.List.{List}
 use lib.ListN.{length, length-take, length-drop}
 use borrow.Author.Tests.{le-leb}
-use Rattle.wire.specs.declared.data.Verdict.{Verdict}
+use Rattle.std.specs.Prelude.{Option, Ok}
+use Rattle.wire.specs.declared.pid.Kind.{Kind}
 use Rattle.wire.specs.Data.{stretch, verdict_of, payload_of}
 use Rattle.state.specs.declared.Speed.{Speed}
 use Rattle.state.specs.declared.Record.{Record}
@@ -29,7 +30,7 @@ use Rattle.bus.specs.Tokens.{count_of, sending, turn_of}
 use Rattle.bus.specs.Data.{taking, setting_up, staged, data_turn}
 use Rattle.bus.specs.Idle.{no_wait}
 use Rattle.bus.specs.Answers.{SaysWithin}
-use Rattle.bus.specs.Arrival.{data_step, missed, run_out, timed_out, packet_step}
+use Rattle.bus.specs.Arrival.{data_step, timed_out, packet_step}
 use Rattle.bus.specs.Calls.{lend_refusal}
 use Rattle.bus.proofs.Laying.{sent_length}
 use Rattle.bus.proofs.Turns.{ping_by, setup_by, in_by, after_setup_by, after_out_by}
@@ -40,6 +41,7 @@ use Rattle.bus.proofs.Lent as lending
 use Rattle.demands.specs.Behaviour.{Lent, Packet, Outcome, heard, the_core}
 use Rattle.demands.specs.History.{sent_by}
 use Rattle.demands.proofs.BusCalls.{bytes_of, call_accepted, heard_accepted}
+use Rattle.demands.proofs.Late.{timeout_waits_not}
 
 -- the length whose ACK is awaited is that of these bytes
 abbrev pub Outstanding : Wait → List ℕ → Type 0
@@ -82,19 +84,10 @@ module _ (speed : Speed) (r : Record) (n : ℕ) where
         out_take = λ h a. refl;
       })
 
-  data_ends : (s : Stage) (v : Verdict) → (data_turn speed s r v n).wait ≡ Nothing
+  pub data_ends : (s : Stage) (v : Option Kind) → (data_turn speed s r v n).wait ≡ Nothing
   data_ends s v =
       data_by speed s r v n (λ (t : Turn). t.wait ≡ Nothing)
       (record { not_good = refl; out_of_place = refl; in_stage = λ toggle e. staged_ends s toggle })
-
-pub timeout_ends : (core : Core) → (timed_out core).wait ≡ Nothing
-unfolding timed_out missed
-timeout_ends core = go core.wait refl
-  where
-    go : (v : Wait) → core.wait ≡ v → (run_out v core).wait ≡ Nothing
-    go Nothing e = e
-    go (Data i s) e = refl
-    go (Acknowledge i buffer n) e = refl
 
 -- ---- the step
 
@@ -132,12 +125,12 @@ module _ (p memory sent : List ℕ) where
       (record {
         awaited_data = λ i s e d x y. none_outstanding _ _ (data_ends core.speed (record_at core i) (length (payload_of p)) s (verdict_of p));
         awaited_ack = λ i b n e a x y. tt;
-        idle = λ f. idle_leaves (timed_out core) (timeout_sound core w) (timeout_ends core);
+        idle = λ f. idle_leaves (timed_out core) (timeout_sound core w) (timeout_waits_not core);
       })
 
 -- ---- the call
 
-pub packet_sent : (core : Core) → Sound core → (lent : Lent) (p sent : List ℕ) → lend_refusal core lent.memory lent.reply ≡ 0 → Outstanding (the_core core lent (Packet p)).core.wait (sent_by (heard (the_core core lent (Packet p))) sent)
+pub packet_sent : (core : Core) → Sound core → (lent : Lent) (p sent : List ℕ) → lend_refusal core lent.memory lent.reply ≡ Ok tt → Outstanding (the_core core lent (Packet p)).core.wait (sent_by (heard (the_core core lent (Packet p))) sent)
 packet_sent core w lent p sent z =
     subst (λ (l : List ℕ). Outstanding (the_core core lent (Packet p)).core.wait (sent_by l sent)) (sym (heard_accepted core lent p z))
     (subst (λ (o : Outcome). Outstanding o.core.wait (sent_by (bytes_of (packet_step core p) (payload_of p) lent.memory) sent)) (sym (call_accepted core lent p z))

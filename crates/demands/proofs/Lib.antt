@@ -1,4 +1,3 @@
-pub mod Leaving
 pub mod Untouched
 pub mod Rules
 pub mod BusCalls

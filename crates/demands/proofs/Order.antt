@@ -8,7 +8,9 @@ use mathlib.Core.List.{List}
 use lib.Dec.{eqb}
 use lib.ListN.{length}
 use borrow.Author.Tests.{eqb-true}
-use Rattle.laws.proofs.Bools.{dec_eq}
+use Rattle.std.specs.Prelude.{Result, Ok, Err}
+use Rattle.std.proofs.lemmas.Bool.{and_left, and_right}
+use Rattle.refusals.specs.declared.Refusal.{Refusal}
 use Rattle.wire.specs.Data.{verdict_of, payload_of}
 use Rattle.state.specs.declared.Wait.{Wait}
 use Rattle.state.specs.declared.Wait.TheVariants as wait
@@ -32,10 +34,6 @@ other_is_not : (b : Bool) → beq (not b) b ≡ false
 other_is_not true = refl
 other_is_not false = refl
 
-second_fails : (a b c d : Bool) → b ≡ false → (a && b && c && d) ≡ false
-second_fails true b c d e = ap (λ (x : Bool). x && c && d) e
-second_fails false b c d e = refl
-
 module _ (core : Core) (i : ℕ) (not_control : is_control (record_at core i).endpoint.kind ≡ false) (allocated : is_armed (buffer_of (record_at core i) (record_at core i).next) ≡ true) where
   abbrev r : Record
   r = record_at core i
@@ -51,7 +49,7 @@ module _ (core : Core) (i : ℕ) (not_control : is_control (record_at core i).en
   nothing_gained wait.Nothing w p answered = refl
   nothing_gained (wait.Data j s) w p answered =
       let good = is_good_as (expected s r) (verdict_of p) in
-      let f = second_fails (eqb j i) (beq (not r.next) (chosen Out r)) good (is_acceptance answered) (ap (beq (not r.next)) marked_chosen ∙ other_is_not r.next) in
+      let f = and_left _ (is_acceptance answered) (and_left _ good (and_right (eqb j i) _ (ap (beq (not r.next)) marked_chosen ∙ other_is_not r.next))) in
       ap (λ (b : Bool). cond b (length (payload_of p)) 0) f
   nothing_gained (wait.Acknowledge j buffer sent) w p answered = pick (eqb j i) refl
     where
@@ -62,13 +60,13 @@ module _ (core : Core) (i : ℕ) (not_control : is_control (record_at core i).en
       pick false e = refl
 
 pub mark_case : MarkCase the_core
-mark_case core lent i p w c a = pick (dec_eq (lend_refusal core lent.memory lent.reply) 0)
+mark_case core lent i p w c a = pick (lend_refusal core lent.memory lent.reply) refl
   where
-    pick : Dec (lend_refusal core lent.memory lent.reply ≡ 0) → done_in (the_core core lent (Packet p)).core i (not (record_at core i).next) ≡ done_in core i (not (record_at core i).next)
-    pick (yes z) =
+    pick : (r : Result Unit Refusal) → lend_refusal core lent.memory lent.reply ≡ r → done_in (the_core core lent (Packet p)).core i (not (record_at core i).next) ≡ done_in core i (not (record_at core i).next)
+    pick (Ok done) z =
         omega (
           arith,
           packet_gains core w lent p i (not (record_at core i).next) z,
           nothing_gained core i c a core.wait w.wait_sound p (heard (the_core core lent (Packet p))),
         )
-    pick (no f) = ap (λ (x : Outcome). done_in x.core i (not (record_at core i).next)) (call_refused core lent p f)
+    pick (Err why) e = ap (λ (x : Outcome). done_in x.core i (not (record_at core i).next)) (call_refused core lent p why e)

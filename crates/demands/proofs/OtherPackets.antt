@@ -5,9 +5,9 @@ use mathlib.Core.Bool.{Bool, true, false, ◌||◌, true≢false, false≢true}
 use mathlib.Core.List.{List}
 use lib.ListN.{length}
 use borrow.Author.Tests.{eq-eqb, ne_eqb}
+use Rattle.std.specs.Prelude.{Option, None, is_some}
+use Rattle.wire.specs.declared.pid.Kind.{Kind}
 use Rattle.wire.specs.declared.pid.Kind.TheVariants as pid
-use Rattle.wire.specs.declared.data.Verdict.{Verdict}
-use Rattle.wire.specs.declared.data.Verdict.TheVariants as verdict
 use Rattle.wire.specs.Data.{verdict_of, payload_of}
 use Rattle.state.specs.declared.Speed.{Speed}
 use Rattle.state.specs.declared.RecordEvent.{RecordEvent}
@@ -31,20 +31,21 @@ use Rattle.bus.specs.declared.turn.Says.TheVariants.{Ack, Nak, Stall}
 use Rattle.bus.specs.Turn.{saying, noting, waiting, placed}
 use Rattle.bus.specs.Active.{acknowledged}
 use Rattle.bus.specs.Tokens.{direction_of, sending, turn_of}
-use Rattle.bus.specs.Data.{taking, setting_up, staged, data_turn}
+use Rattle.bus.specs.Data.{data_turn}
 use Rattle.bus.specs.Idle.{no_wait}
 use Rattle.bus.specs.Arrival.{data_step, timed_out, packet_step}
 use Rattle.bus.proofs.Serving.{Serving}
-use Rattle.bus.proofs.Turns.{setup_by, ping_by, in_by, after_setup_by, after_out_by}
-use Rattle.bus.proofs.Cases.{data_by, no_wait_by, packet_by}
+use Rattle.bus.proofs.Turns.{setup_by, ping_by, in_by}
+use Rattle.bus.proofs.Cases.{no_wait_by, packet_by}
 use Rattle.demands.specs.Behaviour.{Lent, Packet, the_core}
 use Rattle.demands.specs.Demand2.{lends}
-use Rattle.demands.specs.Host.{Setting, pid_is, is_our_token, opens, is_good, waits_for_data}
+use Rattle.demands.specs.Host.{Setting, pid_is, is_our_token, opens, waits_for_data}
 use Rattle.demands.specs.Demand3.{Plays}
 use Rattle.demands.proofs.Spared.{Noted, as_it_was, Quiet, quiet_same, quiet_then, quiet_placed}
 use Rattle.demands.proofs.HostPackets.{verdict_not_good}
 use Rattle.demands.proofs.Asked.{Addressed, Asked, asked}
 use Rattle.demands.proofs.BusCalls.{packet_core}
+use Rattle.demands.proofs.LastSent.{data_ends}
 use Rattle.demands.proofs.Late.{timeout_waits_not, timeout_quiet, still_plays}
 
 -- ---- a turn
@@ -93,13 +94,13 @@ module _ (s : Setting) (core : Core) (plays : Plays s core) (p : List ℕ) where
   not_ours : is_our_token s p ≡ false → (j : ℕ) → Addressed core p asks.Out j → j ≡ s.index → ⊥
   unfolding is_our_token
   not_ours n j x f =
-      let number : (record_at core j).endpoint.number ≡ s.endpoint = ap (λ (k : ℕ). (record_at core k).endpoint.number) f ∙ plays.same_number in
-      true≢false (sym (rw (x.its_pid, x.its_token, eq-eqb core.address s.address plays.same_address, eq-eqb (record_at core j).endpoint.number s.endpoint number)) ∙ n)
+      let number : x.token.endpoint ≡ s.endpoint = x.its_number ∙ ap (λ (k : ℕ). (record_at core k).endpoint.number) f ∙ plays.same_number in
+      true≢false (sym (rw (x.its_pid, x.its_token, eq-eqb x.token.address s.address (x.its_address ∙ plays.same_address), eq-eqb x.token.endpoint s.endpoint number)) ∙ n)
 
   -- OUT and SETUP open an exchange
   opened : (a : Asks) (j : ℕ) → Addressed core p a j → (pid_is pid.Out p || pid_is pid.Setup p) ≡ true → opens s p ≡ true
   unfolding opens
-  opened a j x e = rw (e, x.its_token) (eq-eqb core.address s.address plays.same_address)
+  opened a j x e = rw (e, x.its_token) (eq-eqb x.token.address s.address (x.its_address ∙ plays.same_address))
 
   or_setup : (b : Bool) → pid_is pid.Setup p ≡ true → (b || pid_is pid.Setup p) ≡ true
   or_setup true e = refl
@@ -153,27 +154,12 @@ module _ (s : Setting) (core : Core) (plays : Plays s core) (p : List ℕ) where
 
 -- ---- data awaited
 
-module _ (speed : Speed) (r : Record) (n : ℕ) where
-  abbrev Ends : Turn → Type 0
-  Ends t = t.wait ≡ wait.Nothing
-
-  staged_ends : (x : Stage) (toggle : Bool) → Ends (staged speed x r toggle n)
-  unfolding setting_up taking
-  staged_ends stage.Setup toggle = after_setup_by r Ends toggle n (record { setup_taken = λ z u. refl; not_taken = refl })
-  staged_ends stage.Out toggle =
-      after_out_by r Ends toggle n speed
-      (record { out_stall = refl; out_repeat = λ e. refl; out_no_buffer = λ e. refl; out_too_long = λ e. refl; out_take = λ h a. refl })
-
-  data_ends : (x : Stage) (v : Verdict) → Ends (data_turn speed x r v n)
-  data_ends x v =
-      data_by speed x r v n Ends (record { not_good = refl; out_of_place = refl; in_stage = λ toggle e. staged_ends x toggle })
-
-  not_good_noted : (x : Stage) (v : Verdict) → v ≡ verdict.NotGood → Noted r (data_turn speed x r v n).after
-  not_good_noted x v e = subst (λ (y : Verdict). Noted r (data_turn speed x r y n).after) (sym e) (_, refl)
+not_good_noted : (speed : Speed) (r : Record) (n : ℕ) (x : Stage) (v : Option Kind) → v ≡ None → Noted r (data_turn speed x r v n).after
+not_good_noted speed r n x v e = subst (λ (y : Option Kind). Noted r (data_turn speed x r y n).after) (sym e) (_, refl)
 
 -- while data are awaited for the endpoint, the packet is no good data packet
 abbrev pub Guarded : Setting → Core → List ℕ → Type 0
-Guarded s core p = (x : Stage) → core.wait ≡ wait.Data s.index x → is_good (verdict_of p) ≡ false
+Guarded s core p = (x : Stage) → core.wait ≡ wait.Data s.index x → is_some (verdict_of p) ≡ false
 
 module _ (s : Setting) (core : Core) (plays : Plays s core) (p : List ℕ) where
   data_calm : Guarded s core p → (i : ℕ) (x : Stage) → core.wait ≡ wait.Data i x → CalmTurn s p (record_at core i) i (data_turn core.speed x (record_at core i) (verdict_of p) (length (payload_of p)))

@@ -2,14 +2,14 @@
 use Prim.Native.Nat.{ℕ, ◌+◌, ◌<◌, ◌≤◌}
 use native.Mathlib.Omega.{arith}
 use mathlib.Core.Path.{◌≡◌, refl, sym, ◌∙◌, ap, ap₂, subst}
-use mathlib.Core.Bool.{Bool, true, false, not, beq}
+use mathlib.Core.Bool.{Bool, true, false, not}
 use mathlib.Core.List.{List, [], ◌∷◌}
 use lib.Dec.{leb}
 use lib.ListN.{length, get_or}
 use borrow.Author.Tests.{leb-true, le-ltb}
+use Rattle.std.specs.Prelude.{Option, Some}
 use Rattle.laws.proofs.Lists.{all_at}
-use Rattle.wire.specs.declared.data.Verdict.{Verdict}
-use Rattle.wire.specs.declared.data.Verdict.TheVariants as verdict
+use Rattle.wire.specs.declared.pid.Kind.{Kind}
 use Rattle.wire.specs.Pid.{pid_byte}
 use Rattle.wire.specs.Data.{payload_of}
 use Rattle.state.specs.declared.Record.{Record}
@@ -28,7 +28,6 @@ use Rattle.bus.specs.Active.{chosen, chosen_buffer, active, place_of}
 use Rattle.bus.specs.Tokens.{is_halted}
 use Rattle.bus.specs.Data.{taken, taking, after_out, data_turn}
 use Rattle.bus.specs.Arrival.{data_step, packet_step}
-use Rattle.bus.proofs.Turns.{accepted_by}
 use Rattle.bus.proofs.Cases.{kind_of_toggle}
 use Rattle.bus.proofs.Errors.{data_step_lem}
 use Rattle.bus.proofs.Stretches.{bytes_there, stored_call}
@@ -36,12 +35,13 @@ use Rattle.demands.specs.Behaviour.{Lent, Packet, Outcome, heard, the_core}
 use Rattle.demands.specs.Demand2.{lends, is_acceptance}
 use Rattle.demands.specs.Host.{stored_by, Setting, odd, data_packet, waits_for_data}
 use Rattle.demands.specs.Demand3.{Plays}
-use Rattle.demands.proofs.Spared.{as_it_was, within, quiet_placed}
+use Rattle.demands.proofs.Spared.{toggle_stays, as_it_was, within, quiet_placed}
 use Rattle.demands.proofs.HostPackets.{data_first, data_reads, data_payload}
 use Rattle.demands.proofs.OurToken.{maximum_small}
+use Rattle.demands.proofs.DemandTwo.{accepts}
 use Rattle.demands.proofs.BusCalls.{brought, not_refused, packet_brings, heard_said}
 use Rattle.demands.proofs.Unanswered.{Unstored}
-use Rattle.demands.proofs.Storing.{Taken, is_taken}
+use Rattle.demands.proofs.Storing.{Taken, flips, is_taken}
 
 -- the payload is stored, the wait ends, and the answer is an acceptance
 pub record Took (s : Setting) (core : Core) (payload : List ℕ) (o : Outcome) : Type 0 where
@@ -57,14 +57,6 @@ pub record Awaited (s : Setting) (core : Core) (lent : Lent) (k : ℕ) : Type 0 
   pub lent_whole : lends core lent ≡ true
   pub waits : core.wait ≡ wait.Data s.index stage.Out
   pub more : k < length s.payloads
-
-in_turn : (t o : Bool) → o ≡ t → beq t o ≡ true
-in_turn true o e = rw e
-in_turn false o e = rw e
-
-out_of_turn : (t o : Bool) → o ≡ not t → beq t o ≡ false
-out_of_turn true o e = rw e
-out_of_turn false o e = rw e
 
 module _ (s : Setting) (core : Core) (lent : Lent) (k : ℕ) (a : Awaited s core lent k) where
   abbrev i : ℕ
@@ -98,10 +90,10 @@ module _ (s : Setting) (core : Core) (lent : Lent) (k : ℕ) (a : Awaited s core
   unfolding data_step
   data_placed =
       data_step_lem core i stage.Out (data_packet s k) a.waits (data_first (odd k) payload)
-      ∙ ap₂ (λ (v : Verdict) (n : ℕ). placed core i (data_turn core.speed stage.Out r v n)) (data_reads (odd k) payload short) (ap length its_payload)
+      ∙ ap₂ (λ (v : Option Kind) (n : ℕ). placed core i (data_turn core.speed stage.Out r v n)) (data_reads (odd k) payload short) (ap length its_payload)
       ∙ ap (placed core i) (turned (odd k))
     where
-      turned : (t : Bool) → data_turn core.speed stage.Out r (verdict.Good (kind_of_toggle t)) (length payload) ≡ after_out core.speed r t (length payload)
+      turned : (t : Bool) → data_turn core.speed stage.Out r (Some (kind_of_toggle t)) (length payload) ≡ after_out core.speed r t (length payload)
       turned true = refl
       turned false = refl
 
@@ -123,11 +115,11 @@ module _ (s : Setting) (core : Core) (lent : Lent) (k : ℕ) (a : Awaited s core
 
   pub repeated : r.toggles.out_side ≡ not (odd k) → Unstored s core true call
   unfolding after_out pid_byte
-  repeated e = answered Ack true refl (rw (not_halted, out_of_turn (odd k) r.toggles.out_side e))
+  repeated e = answered Ack true refl (rw (not_halted, e, flips (odd k)))
 
   pub unready : r.toggles.out_side ≡ odd k → active Out r ≡ false → Unstored s core false call
   unfolding after_out pid_byte
-  unready e n = answered Nak false refl (rw (not_halted, in_turn (odd k) r.toggles.out_side e, n))
+  unready e n = answered Nak false refl (rw (not_halted, e, toggle_stays (odd k), n))
 
   -- ---- the payload is stored
 
@@ -148,7 +140,7 @@ module _ (s : Setting) (core : Core) (lent : Lent) (k : ℕ) (a : Awaited s core
       memory = written place payload lent.memory
 
       step : after_out core.speed r (odd k) (length payload) ≡ turn
-      step = rw (not_halted, in_turn (odd k) r.toggles.out_side e, n, le-ltb r.endpoint.maximum (length payload) fits)
+      step = rw (not_halted, e, toggle_stays (odd k), n, le-ltb r.endpoint.maximum (length payload) fits)
 
       room : place + length payload ≤ length lent.memory
       room =
@@ -165,5 +157,5 @@ module _ (s : Setting) (core : Core) (lent : Lent) (k : ℕ) (a : Awaited s core
             its_record = its_record;
             one_stored = its_record.one_stored memory n ∙ ap (λ (x : List ℕ). x ∷ []) (bytes_there lent.memory payload place room);
             ended = refl;
-            answer = ap is_acceptance (heard_said (placed core i turn) payload lent) ∙ accepted_by (λ (x : Says). is_acceptance (said x memory) ≡ true) refl refl core.speed q;
+            answer = ap is_acceptance (heard_said (placed core i turn) payload lent) ∙ accepts core.speed q memory;
           }

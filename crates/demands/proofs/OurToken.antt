@@ -1,13 +1,14 @@
 -- The host's token makes the core wait for data on the endpoint's record: the search finds it, and no other. Assumes nothing.
-use Prim.Native.Nat.{◌≤◌}
+use Prim.Native.Nat.{ℕ, ◌≤◌}
 use native.Mathlib.Omega.{arith}
 use mathlib.Core.Path.{◌≡◌, refl, sym, ◌∙◌, ap, subst}
 use mathlib.Core.Bool.{true, true≢false}
 use mathlib.Core.List.{[], ◌∷◌}
 use lib.Dec.{leb}
 use borrow.Author.Tests.{leb-true, eq-eqb}
+use Rattle.std.specs.Prelude.{Option, Some, None}
 use Rattle.laws.proofs.Bools.{parts}
-use Rattle.wire.specs.declared.pid.Pid.{Pid}
+use Rattle.wire.specs.declared.pid.Kind.{Kind}
 use Rattle.state.specs.declared.Record.{Record}
 use Rattle.state.specs.declared.Stage.TheVariants as stage
 use Rattle.state.specs.declared.Wait.TheVariants as wait
@@ -17,8 +18,6 @@ use Rattle.state.specs.Ranges.{live, type_fits, maximum_fits, endpoint_fits, Liv
 use Rattle.state.proofs.Kept.{as_live}
 use Rattle.bus.specs.declared.active.Direction.TheVariants.{Out}
 use Rattle.bus.specs.declared.token.Asks.TheVariants as asks
-use Rattle.bus.specs.declared.search.Found.{Found}
-use Rattle.bus.specs.declared.search.Found.TheVariants.{At, Nowhere}
 use Rattle.bus.specs.declared.idle.Met as idle
 use Rattle.bus.specs.declared.idle.Met.TheVariants as met
 use Rattle.bus.specs.declared.turn.Step.{Step}
@@ -60,18 +59,18 @@ module _ (s : Setting) (core : Core) (plays : Plays s core) where
   unfolding served_by
   serves_it = rw (plays.is_normal, eq-eqb r.endpoint.number s.endpoint plays.same_number, plays.is_out)
 
-  found : found_in s.endpoint Out core.records ≡ At s.index
+  found : found_in s.endpoint Out core.records ≡ Some s.index
   found = go (found_in s.endpoint Out core.records) (searched core plays.sound s.endpoint Out)
     where
-      go : (x : Found) → Searched core s.endpoint Out x → x ≡ At s.index
-      go Nowhere none = absurd (true≢false (sym serves_it ∙ none s.index plays.index_within))
-      go (At i) at = ap At (sym (at.2 s.index plays.index_within serves_it))
+      go : (x : Option ℕ) → Searched core s.endpoint Out x → x ≡ Some s.index
+      go None none = absurd (true≢false (sym serves_it ∙ none s.index plays.index_within))
+      go (Some i) at = ap Some (sym (at.2 s.index plays.index_within serves_it))
 
   token_met : meeting core (out_token s) ≡ met.Token asks.Out s.index
   unfolding meeting
   token_met =
       let a = plays.sound.address_within in
-      ap (λ (x : Pid). by_pid core x (out_token s)) (token_first s)
+      ap (λ (x : Option Kind). by_pid core x (out_token s)) (token_first s)
       ∙ ap (addressed core asks.Out) (token_reads s (omega (arith, a, plays.same_address)) number_small)
       ∙ rw (eq-eqb s.address core.address (sym plays.same_address)) (ap (found_as asks.Out) found)
 

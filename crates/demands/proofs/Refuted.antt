@@ -8,8 +8,8 @@ use mathlib.Core.List.{List, [], ◌∷◌, ◌++◌}
 use lib.Dec.{ltb, eqb}
 use lib.ListN.{length, get_or, take}
 use borrow.Author.Tests.{ltb-true, ltb-false, eqb-true}
+use Rattle.std.specs.Prelude.{Some, None, Ok, Err}
 use Rattle.wire.specs.declared.pid.Kind.TheVariants.{Data0}
-use Rattle.wire.specs.declared.data.Verdict.TheVariants.{Good, NotGood}
 use Rattle.wire.specs.Crc.{step, after, bits, sent, check}
 use Rattle.wire.specs.Pid.{kind_of, pid_of, pid_byte}
 use Rattle.wire.specs.Token.{token_of}
@@ -29,7 +29,7 @@ use Rattle.firmware.specs.Device.{start_of, set_address_of}
 use Rattle.firmware.specs.Records.{in_use, served_elsewhere, configure_of}
 use Rattle.firmware.specs.Buffers.{shares_byte, arm_of}
 use Rattle.bus.specs.declared.active.Direction.TheVariants.{Out}
-use Rattle.bus.specs.Answers.{replied}
+use Rattle.bus.specs.declared.Answer.TheVariants.{Silent, Reply, Sof}
 use Rattle.bus.specs.Active.{chosen, active, used_up, filled}
 use Rattle.bus.specs.Search.{served_by, found_in}
 use Rattle.bus.specs.Data.{marked, acceptance, taken, taking, after_out}
@@ -104,8 +104,8 @@ chosen_freely = any_free 0 marked_used lent (Packet first)
 record Computed : Type 0 where
   sound_awaiting : is_sound awaiting ≡ true
   sound_marked_used : is_sound marked_used ≡ true
-  good_first : verdict_of first ≡ Good Data0
-  not_good_broken : verdict_of broken ≡ NotGood
+  good_first : verdict_of first ≡ Some Data0
+  not_good_broken : verdict_of broken ≡ None
   short_first : ltb 8 (length (payload_of first)) ≡ false
   active_awaiting : active Out (record_at awaiting 0) ≡ true
   inactive_marked_used : active Out (record_at marked_used 0) ≡ false
@@ -245,7 +245,10 @@ inventing_stores_not d =
 
 abbrev replied_to : Answer → ℕ
 replied_to (ToFirmware a) = 0
-replied_to (ToBus a) = replied a
+replied_to (ToBus (Ok Silent)) = 0
+replied_to (ToBus (Ok (Reply bytes))) = bytes
+replied_to (ToBus (Ok (Sof frame))) = 0
+replied_to (ToBus (Err n)) = 0
 
 pub broken_silent_not : NotGoodCase acks_broken → ⊥
 unfolding is_data_first verdict_of right_check check_sent stretch pid_of kind_of step after bits sent check

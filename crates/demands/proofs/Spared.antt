@@ -7,6 +7,7 @@ use mathlib.Core.List.{List, []}
 use lib.Dec.{leb}
 use lib.ListN.{length}
 use borrow.Author.Tests.{le-ltb}
+use Rattle.std.specs.Cmp.{booleans_Decides}
 use Rattle.laws.specs.Lists.{all}
 use Rattle.laws.proofs.Bools.{dec_eq}
 use Rattle.state.specs.declared.Endpoint.{Endpoint}
@@ -39,8 +40,7 @@ pub as_it_was : (r : Record) → Noted r r
 as_it_was r = (r.events, refl)
 
 pub toggle_stays : (b : Bool) → beq b b ≡ true
-toggle_stays true = refl
-toggle_stays false = refl
+toggle_stays b = (booleans_Decides b b).1 refl
 
 pub never_grew : (d : Descriptor) → grew d d ≡ false
 never_grew Unallocated = refl

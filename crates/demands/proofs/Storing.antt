@@ -45,7 +45,7 @@ pub record Taken (r : Record) (second : Bool) (n : ℕ) (q : Record) : Type 0 wh
   pub flipped : q.toggles.out_side ≡ not r.toggles.out_side
   pub one_stored : (memory : List ℕ) → is_unused (buffer_of r second) ≡ true → stored_in r q memory ≡ (take n (drop (place_of (buffer_of r second)) memory) ∷ [])
 
-flips : (b : Bool) → beq b (not b) ≡ false
+pub flips : (b : Bool) → beq b (not b) ≡ false
 flips true = refl
 flips false = refl
 

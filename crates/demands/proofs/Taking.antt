@@ -2,14 +2,15 @@
 use Prim.Native.Nat.{ℕ}
 use mathlib.Core.Path.{◌≡◌, refl, sym, ◌∙◌, ap, subst}
 use mathlib.Core.Logic.{◌⊎◌, inl, inr}
-use mathlib.Core.Bool.{Bool, true, false, not, ◌&&◌, beq, and-false, false≢true, true≢false}
+use mathlib.Core.Bool.{Bool, true, false, not, ◌&&◌, beq, and-false, false≢true}
 use mathlib.Core.List.{List, [], ◌∷◌}
 use lib.Dec.{ltb, eqb}
 use borrow.Author.Tests.{eq-eqb, not-false}
+use Rattle.std.specs.Prelude.{Option, Some, None}
+use Rattle.std.specs.Cmp.{booleans_Decides}
 use Rattle.laws.proofs.First.{answered}
+use Rattle.wire.specs.declared.pid.Kind.{Kind}
 use Rattle.wire.specs.declared.pid.Kind.TheVariants as pid
-use Rattle.wire.specs.declared.data.Verdict.{Verdict}
-use Rattle.wire.specs.declared.data.Verdict.TheVariants as verdict
 use Rattle.wire.specs.Pid.{number, pid_byte}
 use Rattle.state.specs.declared.Speed.{Speed}
 use Rattle.state.specs.declared.RecordEvent.{RecordEvent}
@@ -21,7 +22,6 @@ use Rattle.state.specs.Update.{buffer_of}
 use Rattle.state.specs.Ranges.{is_control, is_unused}
 use Rattle.state.specs.Sound.{stage_fits}
 use Rattle.bus.specs.declared.active.Direction.TheVariants.{Out}
-use Rattle.bus.specs.declared.turn.Store.TheVariants.{Nowhere, At}
 use Rattle.bus.specs.declared.turn.Says.{Says}
 use Rattle.bus.specs.declared.turn.Says.TheVariants.{Silence, Ack, Nak, Stall}
 use Rattle.bus.specs.declared.turn.Turn.{Turn}
@@ -36,17 +36,17 @@ use Rattle.demands.specs.History.{is_good_as, expected}
 use Rattle.demands.proofs.DemandTwo.{accepts}
 use Rattle.demands.proofs.Counts.{Grows, Same, unused_armed, filled_grows, taken_grows}
 
-module _ (r : Record) (s : Stage) (v : Verdict) (n : ℕ) where
+module _ (r : Record) (s : Stage) (v : Option Kind) (n : ℕ) where
   -- stored in the active buffer, and the core says so
   pub record StoredTurn (t : Turn) : Type 0 where
-    pub place : t.store ≡ At (place_of (chosen_buffer Out r))
+    pub place : t.store ≡ Some (place_of (chosen_buffer Out r))
     pub grows : Grows r t.after (chosen Out r) n
     pub good : is_good_as (expected s r) v ≡ true
     pub accepted : (memory : List ℕ) → is_acceptance (said t.says memory) ≡ true
 
   -- nothing is stored, and it is a repeat or the core does not say that it took it
   pub record UnstoredTurn (t : Turn) : Type 0 where
-    pub nowhere : t.store ≡ Nowhere
+    pub nowhere : t.store ≡ None
     pub same : Same r t.after
     pub not_told : (memory : List ℕ) → (is_good_as (expected s r) v && is_acceptance (said t.says memory)) ≡ false
 
@@ -66,12 +66,6 @@ module _ (r : Record) (s : Stage) (v : Verdict) (n : ℕ) where
 
 -- ---- the toggle
 
-agrees : (t o : Bool) → not (beq t o) ≡ false → t ≡ o
-agrees true true e = refl
-agrees true false e = absurd (true≢false e)
-agrees false true e = absurd (true≢false e)
-agrees false false e = refl
-
 -- another toggle has another PID
 other_pid : (t o : Bool) → not (beq t o) ≡ true → eqb (number (kind_of_toggle o)) (number (kind_of_toggle t)) ≡ false
 other_pid true true e = absurd (false≢true e)
@@ -79,14 +73,14 @@ other_pid true false e = refl
 other_pid false true e = refl
 other_pid false false e = absurd (false≢true e)
 
-module _ (r : Record) (v : Verdict) (n : ℕ) where
+module _ (r : Record) (v : Option Kind) (n : ℕ) where
   -- ---- after OUT
 
-  module _ (toggle : Bool) (e : v ≡ verdict.Good (kind_of_toggle toggle)) where
+  module _ (toggle : Bool) (e : v ≡ Some (kind_of_toggle toggle)) where
     under_toggle : not (beq toggle r.toggles.out_side) ≡ false → is_good_as (toggle_pid r) v ≡ true
     under_toggle f =
         ap (is_good_as (toggle_pid r)) e
-        ∙ eq-eqb (number (toggle_pid r)) (number (kind_of_toggle toggle)) (ap (λ (b : Bool). number (kind_of_toggle b)) (sym (agrees toggle r.toggles.out_side f)))
+        ∙ eq-eqb (number (toggle_pid r)) (number (kind_of_toggle toggle)) (ap (λ (b : Bool). number (kind_of_toggle b)) (sym ((booleans_Decides toggle r.toggles.out_side).0 (not-false (beq toggle r.toggles.out_side) f))))
 
     repeats : not (beq toggle r.toggles.out_side) ≡ true → is_good_as (toggle_pid r) v ≡ false
     repeats f = ap (is_good_as (toggle_pid r)) e ∙ other_pid toggle r.toggles.out_side f
@@ -124,17 +118,17 @@ module _ (r : Record) (v : Verdict) (n : ℕ) where
     unfolding chosen
     zero_chosen = rw c
 
-    setup_taken : v ≡ verdict.Good pid.Data0 → is_unused (buffer_of r false) ≡ true → StoredTurn r stage.Setup v n (setting_up r n)
+    setup_taken : v ≡ Some pid.Data0 → is_unused (buffer_of r false) ≡ true → StoredTurn r stage.Setup v n (setting_up r n)
     unfolding setting_up pid_byte
     setup_taken e u =
         record {
-          place = ap (λ (b : Bool). At (place_of (buffer_of r b))) (sym zero_chosen);
+          place = ap (λ (b : Bool). Some (place_of (buffer_of r b))) (sym zero_chosen);
           grows = subst (λ (b : Bool). Grows r (setting_up r n).after b n) (sym zero_chosen) (filled_grows r false n (unused_armed (buffer_of r false) u));
           good = ap (is_good_as pid.Data0) e;
           accepted = λ memory. refl;
         }
 
-    setup_accounted : (toggle : Bool) → v ≡ verdict.Good (kind_of_toggle toggle) → Accounted r stage.Setup v n (after_setup r toggle n)
+    setup_accounted : (toggle : Bool) → v ≡ Some (kind_of_toggle toggle) → Accounted r stage.Setup v n (after_setup r toggle n)
     unfolding after_setup
     setup_accounted true e = noted_only r stage.Setup v n NotTaken
     setup_accounted false e =
@@ -143,7 +137,7 @@ module _ (r : Record) (v : Verdict) (n : ℕ) where
 
   -- ---- every awaited packet
 
-  staged_accounted : (speed : Speed) (s : Stage) → stage_fits s r.endpoint.kind ≡ true → (toggle : Bool) → v ≡ verdict.Good (kind_of_toggle toggle) → Accounted r s v n (staged speed s r toggle n)
+  staged_accounted : (speed : Speed) (s : Stage) → stage_fits s r.endpoint.kind ≡ true → (toggle : Bool) → v ≡ Some (kind_of_toggle toggle) → Accounted r s v n (staged speed s r toggle n)
   staged_accounted speed stage.Setup f toggle e = setup_accounted f toggle e
   staged_accounted speed stage.Out f toggle e = out_accounted toggle e speed
 

@@ -2,11 +2,15 @@
 use Prim.Native.Nat.{ℕ, zero, suc, ◌<◌}
 use native.Mathlib.Omega.{arith}
 use mathlib.Core.Path.{◌≡◌, refl, sym, ◌∙◌, ap, subst}
-use mathlib.Core.Bool.{Bool, true, false, not, ◌&&◌, cond, beq, and-true}
+use mathlib.Core.Bool.{Bool, true, false, ◌&&◌, cond, beq, and-true}
 use mathlib.Core.List.{List, []}
 use lib.Dec.{ltb, eqb}
 use lib.ListN.{get_or, replicate}
-use borrow.Author.Tests.{ltb-false, eqb-true, eqb-false, eq-eqb, ne_eqb}
+use borrow.Author.Tests.{ltb-false, eq-eqb, ne_eqb}
+use Rattle.laws.proofs.First.{Passed}
+use Rattle.refusals.specs.declared.Refusal.{Refusal}
+use Rattle.refusals.specs.Refusals.{number, judged}
+use Rattle.refusals.proofs.Numbers.{number_positive}
 use Rattle.state.specs.declared.Speed.{Speed}
 use Rattle.state.specs.declared.Speed.TheVariants.{Full}
 use Rattle.state.specs.declared.Condition.{Condition}
@@ -17,14 +21,15 @@ use Rattle.state.specs.declared.Record.{Record}
 use Rattle.state.specs.declared.Wait.{Wait}
 use Rattle.state.specs.declared.Wait.TheVariants as wait
 use Rattle.state.specs.declared.Core.{Core}
+use Rattle.state.specs.declared.Outcome as state
 use Rattle.state.specs.Update.{off_record, with_buffer, started, record_at, with_record}
 use Rattle.state.specs.Ranges.{done_of}
-use Rattle.state.specs.Sound.{is_sound, Sound}
-use Rattle.firmware.specs.declared.answer.Outcome as firmware_call
-use Rattle.firmware.specs.Answers.{accepted, refused, judged, settled}
+use Rattle.state.specs.Sound.{Sound}
+use Rattle.firmware.specs.Answers.{accepted, refused, settled}
 use Rattle.firmware.specs.Device.{start_tests, start_of, address_tests, set_address_of, sound_tests, after_reset, bus_reset_of, system_events_of}
 use Rattle.firmware.specs.Records.{index_tests, configure_tests, configured, configure_of, halt_tests, set_halt_of, clear_halt_of, record_events_of}
 use Rattle.firmware.specs.Buffers.{is_second, arm_tests, arm_of, disarm_tests, disarm_of}
+use Rattle.firmware.proofs.Refusals.{settled_by}
 use Rattle.demands.specs.Behaviour.{Lent, Call, Configure, Arm, Disarm, SetHalt, ClearHalt, SetAddress, BusReset, RecordEvents, SystemEvents, heard, by_firmware, side_of, is_anew, the_core}
 use Rattle.demands.specs.History.{Ledger, emptied, told, noted, total}
 use Rattle.demands.proofs.Counts.{done, done_in, Same, each_after, same_after}
@@ -54,29 +59,20 @@ all_off_told i k l core e f = record { counted_is = off_done i k core e; sent_is
 
 -- ---- a call of the firmware is accepted or refused
 
-settled_by : (P : firmware_call.Outcome → Type 0) (n : ℕ) (before after : Core) (number : ℕ) → (n ≡ 0 → P (accepted after number)) → ((n ≡ 0 → ⊥) → P (refused before n)) → P (settled n before after number)
-unfolding settled
-settled_by P n before after number f g = pick (eqb n 0) refl
-  where
-    pick : (b : Bool) → eqb n 0 ≡ b → P (cond b (accepted after number) (refused before n))
-    pick true e = f (eqb-true n 0 e)
-    pick false e = g (eqb-false n 0 e)
-
 pub start_told : (i : ℕ) (k : Bool) (l : Ledger) (M : ℕ) (speed : Speed) → Told (start_of M speed).core i k (emptied l)
 unfolding start_of
 start_told i k l M speed =
-    settled_by (λ (o : firmware_call.Outcome). Told o.core i k (emptied l)) (judged (start_tests M)) (started 0 Full) (started M speed) 0
-    (λ e. all_off_told i k l (started M speed) refl refl)
-    (λ h. all_off_told i k l (started 0 Full) refl refl)
+    settled_by (λ (o : state.Outcome ℕ). Told o.core i k (emptied l)) (start_tests M) (started 0 Full) (started M speed) 0
+    (λ p. all_off_told i k l (started M speed) refl refl)
+    (λ why. all_off_told i k l (started 0 Full) refl refl)
 
--- an index above 15 is refused, whatever is judged later
-index_passed : (core : Core) (j later : ℕ) → cond (not (is_sound core)) 1 (cond (ltb 15 j) 4 later) ≡ 0 → j < 16
-index_passed core j later z = go (not (is_sound core)) (ltb 15 j) refl z
-  where
-    go : (a b : Bool) → ltb 15 j ≡ b → cond a 1 (cond b 4 later) ≡ 0 → j < 16
-    go true b e z = absurd (omega (arith, z))
-    go false true e z = absurd (omega (arith, z))
-    go false false e z = omega (arith, ltb-false 15 j e)
+-- an index above 15 is refused
+below_16 : (j : ℕ) → ltb 15 j ≡ false → j < 16
+below_16 j e = omega (arith, ltb-false 15 j e)
+
+-- no refusal is done
+pub not_done : (why : Refusal) → eqb (number why) 0 ≡ false
+not_done why = ne_eqb (number why) 0 (λ e. omega (arith, number_positive why, e))
 
 -- ---- what a call gives anew has nothing done
 
@@ -95,11 +91,11 @@ buffer_done r false true d e = refl
 buffer_done r false false d e = e
 
 module _ (core : Core) (w : Sound core) (lent : Lent) (i : ℕ) (k : Bool) (l : Ledger) (t : Told core i k l) where
-  settled_told : (call : Call) → is_anew (side_of call) ≡ false → (n : ℕ) (after : Core) (number : ℕ) → (n ≡ 0 → (answered : List ℕ) → Told after i k (told i k core call answered l)) → let o = settled n core after number in Told o.core i k (noted i k core call (by_firmware lent o) l)
-  settled_told call s n after number f =
-      settled_by (λ (o : firmware_call.Outcome). Told o.core i k (noted i k core call (by_firmware lent o) l)) n core after number
-      (λ e. subst (Told after i k) (sym (ap (λ (b : Bool). cond b (emptied l) (told i k core call (heard (by_firmware lent (accepted after number))) l)) s)) (f e (heard (by_firmware lent (accepted after number)))))
-      (λ h. subst (Told core i k) (sym (ap (λ (b : Bool). cond b (emptied l) (cond (eqb n 0) (told i k core call (heard (by_firmware lent (refused core n))) l) l)) s ∙ ap (λ (b : Bool). cond b (told i k core call (heard (by_firmware lent (refused core n))) l) l) (ne_eqb n 0 h))) t)
+  settled_told : (call : Call) → is_anew (side_of call) ≡ false → (tests : List (Bool × Refusal)) (after : Core) (n : ℕ) → (Passed tests → (answered : List ℕ) → Told after i k (told i k core call answered l)) → let o = settled (judged tests) core after n in Told o.core i k (noted i k core call (by_firmware lent o) l)
+  settled_told call s tests after n f =
+      settled_by (λ (o : state.Outcome ℕ). Told o.core i k (noted i k core call (by_firmware lent o) l)) tests core after n
+      (λ p. subst (Told after i k) (sym (ap (λ (b : Bool). cond b (emptied l) (told i k core call (heard (by_firmware lent (accepted after n))) l)) s)) (f p (heard (by_firmware lent (accepted after n)))))
+      (λ why. subst (Told core i k) (sym (ap (λ (b : Bool). cond b (emptied l) (cond (eqb (number why) 0) (told i k core call (heard (by_firmware lent (refused core why))) l) l)) s ∙ ap (λ (b : Bool). cond b (told i k core call (heard (by_firmware lent (refused core why))) l) l) (not_done why))) t)
 
   -- ---- one record
 
@@ -126,51 +122,51 @@ module _ (core : Core) (w : Sound core) (lent : Lent) (i : ℕ) (k : Bool) (l : 
   pub configure_told : (j : ℕ) (condition : Condition) (e : Endpoint) → After (Configure j condition e)
   unfolding configure_of
   configure_told j condition e =
-      settled_told (Configure j condition e) refl (judged (configure_tests core j condition e)) (with_record core j (configured condition e)) 0
-      (λ z answered. subst (λ (b : Bool). Told (with_record core j (configured condition e)) i k (cond b (emptied l) l)) (and-true (eqb j i)) (given_anew j (index_passed core j _ z) (configured condition e) true (nothing_done condition e k)))
+      settled_told (Configure j condition e) refl (configure_tests core j condition e) (with_record core j (configured condition e)) 0
+      (λ p answered. subst (λ (b : Bool). Told (with_record core j (configured condition e)) i k (cond b (emptied l) l)) (and-true (eqb j i)) (given_anew j (below_16 j p.1.0) (configured condition e) true (nothing_done condition e k)))
 
   pub arm_told : (j buffer base length : ℕ) → After (Arm j buffer base length)
   unfolding arm_of
   arm_told j buffer base length =
-      settled_told (Arm j buffer base length) refl (judged (arm_tests core j buffer base length)) _ 0
-      (λ z answered. given_anew j (index_passed core j _ z) _ (beq k (is_second buffer)) (buffer_done (record_at core j) (is_second buffer) k _ refl))
+      settled_told (Arm j buffer base length) refl (arm_tests core j buffer base length) _ 0
+      (λ p answered. given_anew j (below_16 j p.1.0) _ (beq k (is_second buffer)) (buffer_done (record_at core j) (is_second buffer) k _ refl))
 
   pub disarm_told : (j buffer : ℕ) → After (Disarm j buffer)
   unfolding disarm_of
   disarm_told j buffer =
-      settled_told (Disarm j buffer) refl (judged (disarm_tests core j buffer)) _ _
-      (λ z answered. given_anew j (index_passed core j _ z) _ (beq k (is_second buffer)) (buffer_done (record_at core j) (is_second buffer) k _ refl))
+      settled_told (Disarm j buffer) refl (disarm_tests core j buffer) _ _
+      (λ p answered. given_anew j (below_16 j p.1.0) _ (beq k (is_second buffer)) (buffer_done (record_at core j) (is_second buffer) k _ refl))
 
   pub set_halt_told : (j : ℕ) → After (SetHalt j)
   unfolding set_halt_of
   set_halt_told j =
-      settled_told (SetHalt j) refl (judged (halt_tests core j)) _ 0 (λ z answered. kept j (index_passed core j _ z) _ (λ b. refl))
+      settled_told (SetHalt j) refl (halt_tests core j) _ 0 (λ p answered. kept j (below_16 j p.1.0) _ (λ b. refl))
 
   pub clear_halt_told : (j : ℕ) → After (ClearHalt j)
   unfolding clear_halt_of
   clear_halt_told j =
-      settled_told (ClearHalt j) refl (judged (halt_tests core j)) _ 0 (λ z answered. kept j (index_passed core j _ z) _ (λ b. refl))
+      settled_told (ClearHalt j) refl (halt_tests core j) _ 0 (λ p answered. kept j (below_16 j p.1.0) _ (λ b. refl))
 
   pub record_events_told : (j : ℕ) → After (RecordEvents j)
   unfolding record_events_of
   record_events_told j =
-      settled_told (RecordEvents j) refl (judged (index_tests core j [])) _ _ (λ z answered. kept j (index_passed core j _ z) _ (λ b. refl))
+      settled_told (RecordEvents j) refl (index_tests core j []) _ _ (λ p answered. kept j (below_16 j p.1.0) _ (λ b. refl))
 
   -- ---- the core as a whole
 
   pub set_address_told : (address : ℕ) → After (SetAddress address)
   unfolding set_address_of
   set_address_told address =
-      settled_told (SetAddress address) refl (judged (address_tests core address)) _ 0
-      (λ z answered. record { counted_is = t.counted_is; sent_is = t.sent_is })
+      settled_told (SetAddress address) refl (address_tests core address) _ 0
+      (λ p answered. record { counted_is = t.counted_is; sent_is = t.sent_is })
 
   pub system_events_told : After SystemEvents
   unfolding system_events_of
   system_events_told =
-      settled_told SystemEvents refl (judged (sound_tests core)) _ _ (λ z answered. record { counted_is = t.counted_is; sent_is = t.sent_is })
+      settled_told SystemEvents refl (sound_tests core) _ _ (λ p answered. record { counted_is = t.counted_is; sent_is = t.sent_is })
 
   pub bus_reset_told : (speed : Speed) → After (BusReset speed)
   unfolding bus_reset_of
   bus_reset_told speed =
-      settled_told (BusReset speed) refl (judged (sound_tests core)) (after_reset core speed) 0
-      (λ z answered. all_off_told i k l (after_reset core speed) refl refl)
+      settled_told (BusReset speed) refl (sound_tests core) (after_reset core speed) 0
+      (λ p answered. all_off_told i k l (after_reset core speed) refl refl)

@@ -4,7 +4,8 @@ use mathlib.Core.Path.{◌≡◌, refl, sym, ◌∙◌, ap}
 use mathlib.Core.Bool.{Bool, true, false, true≢false}
 use mathlib.Core.List.{List}
 use lib.ListN.{length}
-use Rattle.wire.specs.declared.data.Verdict.{Verdict}
+use Rattle.std.specs.Prelude.{Option, is_some}
+use Rattle.wire.specs.declared.pid.Kind.{Kind}
 use Rattle.wire.specs.Pid.{number, kind_of, pid_of, pid_byte}
 use Rattle.wire.specs.Data.{packet, verdict_of, payload_of}
 use Rattle.state.specs.declared.Stage.{Stage}
@@ -26,7 +27,7 @@ use Rattle.bus.proofs.KeepsSound.{timeout_sound}
 use Rattle.bus.proofs.Cases.{kind_of_toggle, packet_by}
 use Rattle.demands.specs.Behaviour.{Lent, Packet, Outcome, heard, the_core}
 use Rattle.demands.specs.Demand2.{lends, is_acceptance}
-use Rattle.demands.specs.Host.{Setting, odd, data_packet, is_our_token, opens, is_good, is_good_token, fails, waits_for_data}
+use Rattle.demands.specs.Host.{Setting, odd, data_packet, is_our_token, opens, fails, waits_for_data}
 use Rattle.demands.specs.Demand3.{Plays}
 use Rattle.demands.proofs.Spared.{Quiet}
 use Rattle.demands.proofs.HostPackets.{data_not_ours, data_opens_none, Failing, failing, verdict_not_good}
@@ -54,7 +55,7 @@ failing_unmet s core w p f = go (meeting core p) (asked core w p)
     go met.Nothing x = tt
     go (met.Trouble event) x = tt
     go (met.Frame n) x = true≢false (sym x.1 ∙ f.no_token)
-    go (met.Token a i) x = true≢false (sym (ap is_good_token x.its_token) ∙ f.no_token)
+    go (met.Token a i) x = true≢false (sym (ap is_some x.its_token) ∙ f.no_token)
 
 data_unmet : (core : Core) (toggle : Bool) (payload : List ℕ) → Unmet (meeting core (packet (number (kind_of_toggle toggle)) payload))
 unfolding meeting packet pid_of pid_byte kind_of
@@ -63,14 +64,14 @@ data_unmet core false payload = tt
 
 -- where data are awaited, the packet is no good data packet
 abbrev Unread : Core → List ℕ → Type 0
-Unread core p = (i : ℕ) (x : Stage) → core.wait ≡ wait.Data i x → is_good (verdict_of p) ≡ false
+Unread core p = (i : ℕ) (x : Stage) → core.wait ≡ wait.Data i x → is_some (verdict_of p) ≡ false
 
 silent : (core : Core) → Sound core → (p : List ℕ) → Unmet (meeting (timed_out core) p) → Unread core p → (packet_step core p).says ≡ Silence
 unfolding data_step acknowledged no_wait
 silent core w p u g =
     packet_by core p (λ (x : Step). x.says ≡ Silence) w
     (record {
-      awaited_data = λ i x e d v. ap (λ (y : Verdict). (data_turn core.speed x (record_at core i) y (length (payload_of p))).says) (verdict_not_good (verdict_of p) (g i x e));
+      awaited_data = λ i x e d v. ap (λ (y : Option Kind). (data_turn core.speed x (record_at core i) y (length (payload_of p))).says) (verdict_not_good (verdict_of p) (g i x e));
       awaited_ack = λ i b k e a v. refl;
       idle = λ e. go (meeting (timed_out core) p) u;
     })

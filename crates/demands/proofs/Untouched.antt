@@ -9,8 +9,9 @@ use lib.Dec.{leb, ltb}
 use lib.ListN.{length, drop, get_or}
 use lib.Seq.{get_or-take, get_or-drop}
 use borrow.Author.Tests.{leb-false, ltb-false}
-use Rattle.laws.proofs.Bools.{dec_eq}
-use Rattle.wire.specs.declared.data.Verdict.{Verdict}
+use Rattle.std.specs.Prelude.{Option, Some, None, Result, Ok, Err}
+use Rattle.refusals.specs.declared.Refusal.{Refusal}
+use Rattle.wire.specs.declared.pid.Kind.{Kind}
 use Rattle.wire.specs.Data.{verdict_of, payload_of}
 use Rattle.state.specs.declared.Descriptor.{Descriptor}
 use Rattle.state.specs.declared.Descriptor.TheVariants.{Unallocated, Armed}
@@ -23,8 +24,6 @@ use Rattle.state.specs.Ranges.{is_control, out_side, is_unused, DescriptorSound,
 use Rattle.state.specs.Sound.{DataWait, Sound}
 use Rattle.state.proofs.Kept.{buffer_sound}
 use Rattle.bus.specs.declared.active.Direction.TheVariants.{Out}
-use Rattle.bus.specs.declared.turn.Store.{Store}
-use Rattle.bus.specs.declared.turn.Store.TheVariants.{Nowhere, At}
 use Rattle.bus.specs.declared.turn.Turn.{Turn}
 use Rattle.bus.specs.declared.turn.Step.{Step}
 use Rattle.bus.specs.Turn.{written}
@@ -40,10 +39,10 @@ use Rattle.bus.proofs.Cases.{data_by, packet_by}
 use Rattle.bus.proofs.KeepsSound.{timeout_sound}
 use Rattle.bus.proofs.Steps.{idle_stores_nothing}
 use Rattle.bus.proofs.Lent as lending
-use Rattle.bus.proofs.Refusals.{packet_keeps}
 use Rattle.bus.proofs.Stretches.{bytes_in_front, bytes_behind, memory_kept, stored_call}
-use Rattle.demands.specs.Behaviour.{Lent, Call, Start, Configure, Arm, Disarm, SetHalt, ClearHalt, SetAddress, BusReset, RecordEvents, SystemEvents, Packet, Timeout, the_core}
+use Rattle.demands.specs.Behaviour.{Lent, Call, Start, Configure, Arm, Disarm, SetHalt, ClearHalt, SetAddress, BusReset, RecordEvents, SystemEvents, Packet, Timeout, Outcome, the_core}
 use Rattle.demands.specs.Demand1.{in_span, Unarmed}
+use Rattle.demands.proofs.BusCalls.{call_refused}
 
 -- in front of n bytes from a place on, or behind them
 abbrev Beside : ℕ → ℕ → ℕ → Type 0
@@ -112,9 +111,9 @@ module _ (M maximum n : ℕ) (most : n ≤ maximum) where
 
 -- ---- the store of a packet
 
-abbrev StoredBeside : ℕ → ℕ → Store → Type 0
-StoredBeside place n Nowhere = Unit {0}
-StoredBeside place n (At from) = Beside place from n
+abbrev StoredBeside : ℕ → ℕ → Option ℕ → Type 0
+StoredBeside place n None = Unit {0}
+StoredBeside place n (Some from) = Beside place from n
 
 module _ (core : Core) (w : Sound core) (place : ℕ) (free : Unarmed core place) where
   module _ (i : ℕ) (v : Serving core i Out) (n : ℕ) where
@@ -158,7 +157,7 @@ module _ (core : Core) (w : Sound core) (place : ℕ) (free : Unarmed core place
     staged_spares stage.Setup d toggle = setup_spares d.stage_fitting toggle
     staged_spares stage.Out d toggle = out_spares toggle
 
-    data_spares : (x : Stage) → DataWait r x → (y : Verdict) → Spares (data_turn core.speed x r y n)
+    data_spares : (x : Stage) → DataWait r x → (y : Option Kind) → Spares (data_turn core.speed x r y n)
     data_spares x d y =
         data_by core.speed x r y n Spares
         (record { not_good = tt; out_of_place = tt; in_stage = λ toggle e. staged_spares x d toggle })
@@ -180,10 +179,10 @@ Keeps core lent call =
     (place : ℕ) → Unarmed core place → get_or (the_core core lent call).lent.memory place 0 ≡ get_or lent.memory place 0
 
 module _ (core : Core) (lent : Lent) (p : List ℕ) where
-  abbrev refused_as : ℕ
+  abbrev refused_as : Result Unit Refusal
   refused_as = lend_refusal core lent.memory lent.reply
 
-  stored_keeps : (from : ℕ) → refused_as ≡ 0 → (packet_step core p).store ≡ At from → Keeps core lent (Packet p)
+  stored_keeps : (from : ℕ) → refused_as ≡ Ok tt → (packet_step core p).store ≡ Some from → Keeps core lent (Packet p)
   stored_keeps from z e place free =
       let w = (lending.lent core lent.memory lent.reply z).sound in
       let c = stored_call core lent.memory lent.reply p from z e in
@@ -196,13 +195,13 @@ module _ (core : Core) (lent : Lent) (p : List ℕ) where
       unwritten : (the_core core lent (Packet p)).lent.memory ≡ lent.memory → get_or (the_core core lent (Packet p)).lent.memory place 0 ≡ get_or lent.memory place 0
       unwritten = ap (λ (l : List ℕ). get_or l place 0)
 
-      pick : (from : ℕ) → (packet_step core p).store ≡ At from → Dec (refused_as ≡ 0) → get_or (the_core core lent (Packet p)).lent.memory place 0 ≡ get_or lent.memory place 0
-      pick from e (yes z) = stored_keeps from z e place free
-      pick from e (no h) = unwritten (packet_keeps core lent.memory lent.reply p h).1
+      pick : (from : ℕ) → (packet_step core p).store ≡ Some from → (r : Result Unit Refusal) → refused_as ≡ r → get_or (the_core core lent (Packet p)).lent.memory place 0 ≡ get_or lent.memory place 0
+      pick from e (Ok done) z = stored_keeps from z e place free
+      pick from e (Err why) f = unwritten (ap (λ (o : Outcome). o.lent.memory) (call_refused core lent p why f))
 
-      by_store : (x : Store) → (packet_step core p).store ≡ x → get_or (the_core core lent (Packet p)).lent.memory place 0 ≡ get_or lent.memory place 0
-      by_store Nowhere e = unwritten (memory_kept core lent.memory lent.reply p e)
-      by_store (At from) e = pick from e (dec_eq refused_as 0)
+      by_store : (x : Option ℕ) → (packet_step core p).store ≡ x → get_or (the_core core lent (Packet p)).lent.memory place 0 ≡ get_or lent.memory place 0
+      by_store None e = unwritten (memory_kept core lent.memory lent.reply p e)
+      by_store (Some from) e = pick from e refused_as refl
 
 -- only a packet is stored
 pub rest_kept : (core : Core) (lent : Lent) (call : Call) → Keeps core lent call

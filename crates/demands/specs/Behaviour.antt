@@ -1,19 +1,17 @@
 -- A behaviour: what a core does at each call. Document 01's core is one, and so is a fraud.
-use Rattle.std.specs.Prelude.{ℕ, ◌≡◌, Bool, true, false, List, [], ◌∷◌, take}
+use Rattle.std.specs.Prelude.{ℕ, ◌≡◌, Bool, true, false, List, [], ◌∷◌, Result, Ok, Err, take}
+use Rattle.refusals.specs.declared.Refusal.{Refusal}
+use Rattle.refusals.specs.Refusals.{number}
 use Rattle.state.specs.declared.Speed.{Speed}
 use Rattle.state.specs.declared.Condition.{Condition}
 use Rattle.state.specs.declared.Endpoint.{Endpoint}
 use Rattle.state.specs.declared.Core.{Core}
-use Rattle.firmware.specs.declared.answer.Answer as firmware
-use Rattle.firmware.specs.declared.answer.Outcome as firmware_call
-use Rattle.firmware.specs.Answers as firmware_number
+use Rattle.state.specs.declared.Outcome as state
 use Rattle.firmware.specs.Device.{start_of, set_address_of, bus_reset_of, system_events_of}
 use Rattle.firmware.specs.Records.{configure_of, set_halt_of, clear_halt_of, record_events_of}
 use Rattle.firmware.specs.Buffers.{arm_of, disarm_of}
 use Rattle.bus.specs.declared.Answer as bus
-use Rattle.bus.specs.declared.Answer.TheVariants.{Silent, Reply, Sof, Refused}
-use Rattle.bus.specs.declared.Outcome as bus_call
-use Rattle.bus.specs.Answers as bus_number
+use Rattle.bus.specs.declared.Answer.TheVariants.{Silent, Reply, Sof}
 use Rattle.bus.specs.Calls.{packet_of, timeout_of}
 
 -- what is lent for the time of a call: the buffer memory and the reply buffer. It comes with each call, so between two calls the
@@ -68,15 +66,19 @@ is_by_firmware Anew = false
 is_by_firmware ByFirmware = true
 is_by_firmware OnBus = false
 
--- what a call answers: the firmware's calls, and the two of the bus
+-- what a call answers: the firmware's calls, and the two of the bus. A behaviour may refuse with any number
 pub data Answer : Type 0 where
-  ToFirmware : firmware.Answer → Answer
-  ToBus : bus.Answer → Answer
+  ToFirmware : Result ℕ ℕ → Answer
+  ToBus : Result bus.Answer ℕ → Answer
+
+abbrev pub number_in : {A : Type 0} → Result A ℕ → ℕ
+number_in (Ok answer) = 0
+number_in (Err n) = n
 
 -- the number of the refusal, 0 being done
 abbrev pub refusal : Answer → ℕ
-refusal (ToFirmware a) = firmware_number.refusal a
-refusal (ToBus a) = bus_number.refusal a
+refusal (ToFirmware a) = number_in a
+refusal (ToBus a) = number_in a
 
 -- what a call leaves and answers
 pub record Outcome : Type 0 where
@@ -88,11 +90,11 @@ abbrev pub Behaviour : Type 0
 Behaviour = Core → Lent → Call → Outcome
 
 -- what is heard on the bus: as many bytes of the reply buffer as the answer says
-abbrev pub sent_of : bus.Answer → List ℕ → List ℕ
-sent_of Silent reply = []
-sent_of (Reply bytes) reply = take bytes reply
-sent_of (Sof frame) reply = []
-sent_of (Refused n) reply = []
+abbrev pub sent_of : Result bus.Answer ℕ → List ℕ → List ℕ
+sent_of (Ok Silent) reply = []
+sent_of (Ok (Reply bytes)) reply = take bytes reply
+sent_of (Ok (Sof frame)) reply = []
+sent_of (Err n) reply = []
 
 abbrev pub heard_of : Answer → List ℕ → List ℕ
 heard_of (ToFirmware a) reply = []
@@ -103,12 +105,17 @@ heard o = heard_of o.answer o.lent.reply
 
 -- ---- document 01's core, made of the definitions that the contracts cite
 
--- a call of the firmware is lent no bytes
-abbrev pub by_firmware : Lent → firmware_call.Outcome → Outcome
-by_firmware lent o = record { core = o.core; lent = lent; answer = ToFirmware o.answer }
+-- the answer with the refusal's number in place of the refusal
+abbrev pub by_number : {A : Type 0} → Result A Refusal → Result A ℕ
+by_number (Ok answer) = Ok answer
+by_number (Err why) = Err (number why)
 
-abbrev pub on_bus : bus_call.Outcome → List ℕ → List ℕ → Outcome
-on_bus o memory reply = record { core = o.core; lent = record { memory = memory; reply = reply }; answer = ToBus o.answer }
+-- a call of the firmware is lent no bytes
+abbrev pub by_firmware : Lent → state.Outcome ℕ → Outcome
+by_firmware lent o = record { core = o.core; lent = lent; answer = ToFirmware (by_number o.answer) }
+
+abbrev pub on_bus : state.Outcome bus.Answer → List ℕ → List ℕ → Outcome
+on_bus o memory reply = record { core = o.core; lent = record { memory = memory; reply = reply }; answer = ToBus (by_number o.answer) }
 
 abbrev pub packet_call : Core → Lent → List ℕ → Outcome
 packet_call core lent p =
@@ -131,11 +138,11 @@ the_core core lent Timeout = on_bus (timeout_of core lent.memory lent.reply) len
 -- ---- the code's calls, each as one step of it
 
 -- what a call of the firmware returned is the step, whatever is lent meanwhile
-abbrev pub Steps : Core → Call → firmware_call.Outcome → Type 0
+abbrev pub Steps : Core → Call → state.Outcome ℕ → Type 0
 Steps core call o = (lent : Lent) → by_firmware lent o ≡ the_core core lent call
 
 -- what a call of the bus returned, with the bytes that it left, is the step
-abbrev pub StepsOnBus : Core → List ℕ → List ℕ → Call → bus_call.Outcome → List ℕ → List ℕ → Type 0
+abbrev pub StepsOnBus : Core → List ℕ → List ℕ → Call → state.Outcome bus.Answer → List ℕ → List ℕ → Type 0
 StepsOnBus core memory reply call o memory' reply' =
     on_bus o memory' reply' ≡ the_core core (record { memory = memory; reply = reply }) call
 

@@ -3,6 +3,8 @@
 -- they stood."
 use Rattle.std.specs.Prelude.{ℕ, ◌+◌, ◌≡◌, Bool, false, ◌&&◌, cond, List, [], leb, ltb, length, get_or}
 use Rattle.laws.specs.Lists.{first_of}
+use Rattle.refusals.specs.declared.Refusal.{Refusal}
+use Rattle.refusals.specs.Refusals.{numbered}
 use Rattle.state.specs.declared.Speed.TheVariants.{Full}
 use Rattle.state.specs.declared.Descriptor.{Descriptor}
 use Rattle.state.specs.declared.Descriptor.TheVariants.{Unallocated, Armed}
@@ -16,7 +18,7 @@ use Rattle.bus.specs.Calls.{lend_tests}
 use Rattle.demands.specs.Behaviour.{Lent, Call, Start, Configure, Arm, Disarm, SetHalt, ClearHalt, SetAddress, BusReset, RecordEvents, SystemEvents, Packet, Timeout, side_of, is_anew, refusal, Behaviour, Given, Beginning, run_from}
 
 -- each row of the table that a call has an argument for, in the order of the numbers
-abbrev pub tests_of : Core → Lent → Call → List (Bool × ℕ)
+abbrev pub tests_of : Core → Lent → Call → List (Bool × Refusal)
 tests_of core lent (Start M speed) = start_tests M
 tests_of core lent (Configure i condition e) = configure_tests core i condition e
 tests_of core lent (Arm i buffer base length) = arm_tests core i buffer base length
@@ -47,7 +49,7 @@ pub record Demand1 (B : Behaviour) : Type 0 where
   -- its rules: every run from a start is in a sound state
   pub stays_sound : (s : Beginning) (gs : List Given) → Sound (run_from B s gs)
   -- the number of the first row of the table that holds, and 0 where none does
-  pub judges : (core : Core) (lent : Lent) (call : Call) → refusal (B core lent call).answer ≡ first_of (tests_of core lent call) 0
+  pub judges : (core : Core) (lent : Lent) (call : Call) → refusal (B core lent call).answer ≡ first_of (numbered (tests_of core lent call)) 0
   pub refused_keeps : (core : Core) (lent : Lent) (call : Call) → (refusal (B core lent call).answer ≡ 0 → ⊥) → ((B core lent call).core ≡ as_it_stood core call) × ((B core lent call).lent ≡ lent)
   -- its memory: as many bytes as were lent
   pub same_lengths : (core : Core) (lent : Lent) (call : Call) → (length (B core lent call).lent.memory ≡ length lent.memory) × (length (B core lent call).lent.reply ≡ length lent.reply)

@@ -1,8 +1,7 @@
 -- Cases of demand 2, of any behaviour, that the frauds break: "each reply, store, toggle and event is the one that document 01 gives."
-use Rattle.std.specs.Prelude.{ℕ, ◌≤◌, ◌≡◌, Bool, true, false, not, ◌&&◌, ◌||◌, cond, List, [], ◌∷◌, leb, eqb, length}
+use Rattle.std.specs.Prelude.{ℕ, ◌≤◌, ◌≡◌, Bool, true, false, not, ◌&&◌, ◌||◌, cond, Some, None, Ok, List, [], ◌∷◌, leb, eqb, length}
 use Rattle.wire.specs.declared.pid.Kind.{Kind}
 use Rattle.wire.specs.declared.pid.Kind.TheVariants as pid
-use Rattle.wire.specs.declared.data.Verdict.TheVariants as verdict
 use Rattle.wire.specs.Pid.{number, pid_byte}
 use Rattle.wire.specs.Data.{verdict_of, payload_of}
 use Rattle.state.specs.declared.Record.{Record}
@@ -45,7 +44,7 @@ pub record InTurn (core : Core) (lent : Lent) (i : ℕ) (p : List ℕ) : Type 0 
   pub lent_whole : lends core lent ≡ true
   pub waits : core.wait ≡ wait.Data i stage.Out
   pub not_halted : is_halted (record_at core i).condition ≡ false
-  pub under_toggle : verdict_of p ≡ verdict.Good (toggle_pid (record_at core i))
+  pub under_toggle : verdict_of p ≡ Some (toggle_pid (record_at core i))
 
 -- "Else store, .. answer ACK; at high speed .. NYET": the payload's bytes stand in the memory from base + done, and no other byte changed
 abbrev pub StoreCase : Behaviour → Type 0
@@ -72,8 +71,8 @@ NotGoodCase B =
     → lends core lent ≡ true
     → core.wait ≡ wait.Data i s
     → is_data_first p ≡ true
-    → verdict_of p ≡ verdict.NotGood
-    → ((B core lent (Packet p)).answer ≡ ToBus Silent) × ((B core lent (Packet p)).lent ≡ lent)
+    → verdict_of p ≡ None
+    → ((B core lent (Packet p)).answer ≡ ToBus (Ok Silent)) × ((B core lent (Packet p)).lent ≡ lent)
 
 -- "Otherwise the marked one if allocated, else the other. .. a used marked buffer is not skipped": while the marked buffer is allocated nothing is
 -- counted to the other, so the buffers are filled and emptied in the order of the mark. "Choosing any free buffer: after one is used, order is lost."

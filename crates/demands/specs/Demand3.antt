@@ -1,5 +1,5 @@
 -- Demand 3, of any behaviour: its hypotheses, each with the demand's words, and its claim.
-use Rattle.std.specs.Prelude.{ℕ, suc, ◌<◌, ◌≤◌, ◌≡◌, ◌⊎◌, Bool, true, false, not, ◌&&◌, ◌||◌, List, [], ◌∷◌, ◌++◌, leb, eqb, length, take}
+use Rattle.std.specs.Prelude.{ℕ, suc, ◌<◌, ◌≤◌, ◌≡◌, ◌⊎◌, Bool, true, false, not, ◌&&◌, ◌||◌, is_some, List, [], ◌∷◌, ◌++◌, leb, eqb, length, take}
 use Rattle.laws.specs.Lists.{all}
 use Rattle.wire.specs.Data.{verdict_of}
 use Rattle.state.specs.declared.Condition.TheVariants.{Normal}
@@ -12,7 +12,7 @@ use Rattle.bus.specs.declared.active.Direction.TheVariants.{Out}
 use Rattle.bus.specs.Active.{active}
 use Rattle.demands.specs.Behaviour.{Lent, Call, Start, Configure, Arm, Disarm, SetHalt, ClearHalt, SetAddress, BusReset, RecordEvents, SystemEvents, Packet, Timeout, side_of, is_by_firmware, refusal, Behaviour}
 use Rattle.demands.specs.Demand2.{lends}
-use Rattle.demands.specs.Host.{Setting, Happening, Firmware, Late, TokenArrives, DataArrives, DamagedArrives, OtherArrives, This, is_this, is_another, is_our_token, is_good, fails, World, next, after, begin}
+use Rattle.demands.specs.Host.{Setting, Happening, Firmware, Late, TokenArrives, DataArrives, DamagedArrives, OtherArrives, This, is_this, is_another, is_our_token, fails, World, next, after, begin}
 
 -- ---- "One bulk or interrupt OUT endpoint, freshly configured"
 
@@ -75,7 +75,7 @@ Allowed B s w (DamagedArrives l p h) = (lends w.core l ≡ true) × (fails p ≡
 -- "Other endpoints are served in between": any packet but a good OUT token for this endpoint, and behind the host's token no good data packet
 -- but its own
 Allowed B s w (OtherArrives l p) =
-    (lends w.core l ≡ true) × (is_our_token s p ≡ false) × ((is_this w.exchange && is_good (verdict_of p)) ≡ false)
+    (lends w.core l ≡ true) × (is_our_token s p ≡ false) × ((is_this w.exchange && is_some (verdict_of p)) ≡ false)
 
 abbrev pub AllAllowed : Behaviour → Setting → World → List Happening → Type 0
 AllAllowed B s w [] = Unit {0}

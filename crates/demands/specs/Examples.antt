@@ -1,8 +1,7 @@
 -- Document 01, "Proved examples": one table, and what each line of it says.
-use Rattle.std.specs.Prelude.{ℕ, ◌≡◌, Bool, true, false, not, List, [], ◌∷◌}
+use Rattle.std.specs.Prelude.{ℕ, ◌≡◌, Bool, true, false, not, Option, Some, None, List, [], ◌∷◌}
+use Rattle.wire.specs.declared.pid.Kind.{Kind}
 use Rattle.wire.specs.declared.pid.Kind.TheVariants as pid
-use Rattle.wire.specs.declared.pid.Pid.{Pid}
-use Rattle.wire.specs.declared.pid.Pid.TheVariants.{Checked, Failed}
 use Rattle.wire.specs.Crc.{crc5, crc16}
 use Rattle.wire.specs.Pid.{pid_of}
 use Rattle.state.specs.declared.Speed.{Speed}
@@ -14,7 +13,7 @@ use Rattle.state.specs.Spans.{span_from, apart}
 
 pub data Example : Type 0 where
   -- a byte as a PID
-  Reads : ℕ → Pid → Example
+  Reads : ℕ → Option Kind → Example
   -- eleven bits, and their check
   TokenCheck : ℕ → ℕ → Example
   -- a payload, and its check
@@ -41,9 +40,9 @@ AllHold (x ∷ xs) = Holds x × AllHold xs
 
 abbrev pub table : List Example
 table =
-    Reads 0xE1 (Checked pid.Out)
-    ∷ Reads 0xF0 (Checked pid.Reserved)
-    ∷ Reads 0xE0 Failed
+    Reads 0xE1 (Some pid.Out)
+    ∷ Reads 0xF0 (Some pid.Reserved)
+    ∷ Reads 0xE0 None
     ∷ TokenCheck 0 0x02
     ∷ TokenCheck 1 0x1D
     ∷ TokenCheck 129 0x0B

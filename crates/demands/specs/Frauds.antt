@@ -1,19 +1,18 @@
 -- Frauds, as behaviours: the four of document 01, "What the proofs have to nail", and two of our own.
-use Rattle.std.specs.Prelude.{ℕ, suc, false, not, ◌&&◌, cond, List, ◌++◌, drop}
+use Rattle.std.specs.Prelude.{ℕ, suc, false, not, ◌&&◌, cond, is_some, Ok, Err, List, ◌++◌, drop}
 use Rattle.wire.specs.declared.pid.Kind.TheVariants as pid
 use Rattle.wire.specs.Data.{verdict_of}
 use Rattle.state.specs.declared.Descriptor.{Descriptor}
 use Rattle.state.specs.declared.Descriptor.TheVariants.{Unallocated, Armed}
 use Rattle.state.specs.declared.Core.{Core}
 use Rattle.state.specs.Update.{with_next, with_buffer, record_at, with_record}
-use Rattle.firmware.specs.declared.answer.Answer.TheVariants as firmware
 use Rattle.bus.specs.declared.active.Direction.TheVariants.{Out}
-use Rattle.bus.specs.declared.Answer.TheVariants as bus
+use Rattle.bus.specs.declared.Answer.TheVariants.{Silent, Reply}
 use Rattle.bus.specs.Active.{active}
 use Rattle.bus.specs.Arrival.{is_data_first}
 use Rattle.demands.specs.Behaviour.{Lent, Start, Configure, Arm, Disarm, SetHalt, ClearHalt, SetAddress, BusReset, RecordEvents, SystemEvents, Packet, Timeout, ToFirmware, ToBus, Outcome, Behaviour, the_core}
 use Rattle.demands.specs.Demand2.{handshake}
-use Rattle.demands.specs.Host.{is_good, grew}
+use Rattle.demands.specs.Host.{grew}
 
 -- the core, but for what it does with packets
 abbrev pub on_packets : (Core → Lent → List ℕ → Outcome) → Behaviour
@@ -33,13 +32,13 @@ on_packets f core lent Timeout = the_core core lent Timeout
 -- ---- "a core that is always silent or refuses every call"
 
 abbrev pub silence : Core → Lent → Outcome
-silence core lent = record { core = core; lent = lent; answer = ToBus bus.Silent }
+silence core lent = record { core = core; lent = lent; answer = ToBus (Ok Silent) }
 
 abbrev pub always_silent : Behaviour
 always_silent = on_packets (λ core lent p. silence core lent)
 
 abbrev pub refuses_all : Behaviour
-refuses_all core lent call = record { core = core; lent = lent; answer = ToFirmware (firmware.Refused 1) }
+refuses_all core lent call = record { core = core; lent = lent; answer = ToFirmware (Err 1) }
 
 -- ---- "one that says ACK to all"
 
@@ -49,7 +48,7 @@ false_ack core lent =
     record {
       core = core;
       lent = record { memory = lent.memory; reply = handshake pid.Ack ++ drop 1 lent.reply };
-      answer = ToBus (bus.Reply 1);
+      answer = ToBus (Ok (Reply 1));
     }
 
 -- ACK to every data packet; its tokens are read as the core reads them
@@ -89,7 +88,7 @@ invents_done i = on_packets (λ core lent p. inventing i core (the_core core len
 abbrev pub acks_broken : Behaviour
 acks_broken =
     on_packets
-    (λ core lent p. cond (is_data_first p && not (is_good (verdict_of p))) (false_ack core lent) (the_core core lent (Packet p)))
+    (λ core lent p. cond (is_data_first p && not (is_some (verdict_of p))) (false_ack core lent) (the_core core lent (Packet p)))
 
 -- ---- our own: one that chooses any free buffer
 

@@ -1,10 +1,8 @@
 -- "done is the length of the payloads stored since arming", read off the calls, their answers, and what the core awaited. No done count is looked at.
-use Rattle.std.specs.Prelude.{ℕ, ◌+◌, ◌≡◌, Bool, true, false, ◌&&◌, cond, List, [], ◌∷◌, ◌++◌, leb, eqb, length, take, drop}
+use Rattle.std.specs.Prelude.{ℕ, ◌≡◌, Bool, true, false, ◌&&◌, cond, Option, Some, None, List, [], ◌∷◌, ◌++◌, leb, eqb, length, take, drop, sum_by}
 use Rattle.std.specs.Bool.{beq}
 use Rattle.wire.specs.declared.pid.Kind.{Kind}
 use Rattle.wire.specs.declared.pid.Kind.TheVariants as pid
-use Rattle.wire.specs.declared.data.Verdict.{Verdict}
-use Rattle.wire.specs.declared.data.Verdict.TheVariants as verdict
 use Rattle.wire.specs.Pid.{number}
 use Rattle.wire.specs.Data.{stretch, verdict_of, payload_of}
 use Rattle.state.specs.declared.Record.{Record}
@@ -37,9 +35,9 @@ emptied l = record { counted = []; sent = l.sent }
 
 -- ---- a payload is stored
 
-abbrev pub is_good_as : Kind → Verdict → Bool
-is_good_as k verdict.NotGood = false
-is_good_as k (verdict.Good k') = eqb (number k) (number k')
+abbrev pub is_good_as : Kind → Option Kind → Bool
+is_good_as k None = false
+is_good_as k (Some k') = eqb (number k) (number k')
 
 -- after SETUP the host sends DATA0; after OUT a packet whose PID is not the toggle is a repeat, and stored before
 abbrev pub expected : Stage → Record → Kind
@@ -98,8 +96,7 @@ ledger B i second core l (g ∷ gs) =
     let o = B core g.lent g.call in ledger B i second o.core (noted i second core g.call o l) gs
 
 abbrev pub total : List (List ℕ) → ℕ
-total [] = 0
-total (x ∷ xs) = length x + total xs
+total xs = sum_by length xs
 
 abbrev pub ledger_from : Behaviour → ℕ → Bool → Beginning → List Given → Ledger
 ledger_from B i second s gs = ledger B i second s.before blank (from s gs)

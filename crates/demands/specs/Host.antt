@@ -1,13 +1,10 @@
 -- Demand 3's host: "a host that sends a list of payloads, none above the maximum, from DATA0 on by the standard's toggle and retry rules",
 -- what can happen on its bus, and what is stored by it.
-use Rattle.std.specs.Prelude.{ℕ, zero, suc, ◌+◌, ◌-◌, ◌*◌, ◌/◌, ◌%◌, Bool, true, false, not, ◌&&◌, ◌||◌, cond, List, [], ◌∷◌, ◌++◌, ltb, eqb, get_or, take, drop}
+use Rattle.std.specs.Prelude.{ℕ, zero, suc, ◌+◌, ◌-◌, ◌*◌, ◌/◌, ◌%◌, Bool, true, false, not, ◌&&◌, ◌||◌, cond, Option, Some, None, is_some, List, [], ◌∷◌, ◌++◌, ltb, eqb, get_or, take, drop}
 use Rattle.std.specs.Bool.{beq}
 use Rattle.wire.specs.declared.pid.Kind.{Kind}
 use Rattle.wire.specs.declared.pid.Kind.TheVariants as pid
 use Rattle.wire.specs.declared.token.Token.{Token}
-use Rattle.wire.specs.declared.token.Token.TheVariants as token
-use Rattle.wire.specs.declared.data.Verdict.{Verdict}
-use Rattle.wire.specs.declared.data.Verdict.TheVariants as verdict
 use Rattle.wire.specs.Crc.{crc5}
 use Rattle.wire.specs.Pid.{number, pid_byte}
 use Rattle.wire.specs.Token.{token_of}
@@ -127,13 +124,13 @@ pub data Open : Type 0 where
   -- perhaps another's: another OUT or SETUP token for this address arrived
   Another : Open
 
-abbrev pub for_address : Setting → Token → Bool
-for_address s token.Bad = false
-for_address s (token.Good a n f) = eqb a s.address
+abbrev pub for_address : Setting → Option Token → Bool
+for_address s None = false
+for_address s (Some token) = eqb token.address s.address
 
-abbrev pub for_endpoint : Setting → Token → Bool
-for_endpoint s token.Bad = false
-for_endpoint s (token.Good a n f) = eqb a s.address && eqb n s.endpoint
+abbrev pub for_endpoint : Setting → Option Token → Bool
+for_endpoint s None = false
+for_endpoint s (Some token) = eqb token.address s.address && eqb token.endpoint s.endpoint
 
 abbrev pub pid_is : Kind → List ℕ → Bool
 pid_is k p = eqb (get_or p 0 0) (pid_byte (number k))
@@ -146,17 +143,9 @@ is_our_token s p = pid_is pid.Out p && for_endpoint s (token_of p)
 unfoldable pub opens : Setting → List ℕ → Bool
 opens s p = (pid_is pid.Out p || pid_is pid.Setup p) && for_address s (token_of p)
 
-abbrev pub is_good : Verdict → Bool
-is_good verdict.NotGood = false
-is_good (verdict.Good kind) = true
-
-abbrev pub is_good_token : Token → Bool
-is_good_token token.Bad = false
-is_good_token (token.Good a n f) = true
-
 -- it fails its check: no good data packet, and no good token
 unfoldable pub fails : List ℕ → Bool
-fails p = not (is_good (verdict_of p)) && not (is_good_token (token_of p))
+fails p = not (is_some (verdict_of p)) && not (is_some (token_of p))
 
 abbrev pub open_after : Setting → Open → Happening → Open
 open_after s o (Firmware l c) = o

@@ -4,7 +4,8 @@ use mathlib.Core.List.{List}
 use lib.ListN.{length}
 use Rattle.laws.proofs.Once.{Once, once}
 use Rattle.wire.specs.Crc.{crc16}
-use Rattle.wire.specs.Data.{verdict_of, verdict_number, payload_of, write_of, written, refusal, buffer_after}
+use Rattle.wire.specs.Data.{verdict_of, verdict_number, payload_of, write_of, buffer_after}
+use Rattle.refusals.specs.Refusals.{refusal, returned}
 use Rattle.wire.specs.Token.{token_of}
 use Rattle.exported.specs.Numbers.{token_number}
 use Rattle.exported.specs.Scene.{set_up, sound_of}
@@ -18,7 +19,7 @@ pub hnitbrek_read_once : (packet : List ℕ) → Once (length (payload_of packet
 hnitbrek_read_once packet = (once _, once _)
 
 -- the length, the refusal, and the buffer
-pub hnitbrek_write_once : (pid : ℕ) (payload buffer : List ℕ) → Once (written (write_of pid payload buffer)) × Once (refusal (write_of pid payload buffer)) × Once (buffer_after pid payload buffer)
+pub hnitbrek_write_once : (pid : ℕ) (payload buffer : List ℕ) → Once (returned (write_of pid payload buffer)) × Once (refusal (write_of pid payload buffer)) × Once (buffer_after pid payload buffer)
 hnitbrek_write_once pid payload buffer = (once _, once _, once _)
 
 pub hnitbrek_token_once : (packet : List ℕ) → Once (token_number (token_of packet))

@@ -11,7 +11,7 @@ use Rattle.state.specs.declared.Core.{Core}
 use Rattle.state.specs.Update.{with_address}
 use Rattle.state.specs.Sound.{is_sound}
 use Rattle.firmware.specs.Device.{start_of, set_address_of}
-use Rattle.firmware.specs.Records.{endpoint_of, configure_of}
+use Rattle.firmware.specs.Records.{configure_of}
 use Rattle.firmware.specs.Buffers.{arm_of}
 
 -- at high speed a bulk maximum is 512, and at full speed it never is
@@ -24,7 +24,8 @@ room_of maximum = maximum % 1024 * 30
 
 -- the state that a call leaves, taken or refused
 abbrev pub live_of : Core → ℕ → Kind → Transfer → ℕ → ℕ → Core
-live_of core i kind transfer number maximum = (configure_of core i Normal (endpoint_of kind transfer number maximum)).core
+live_of core i kind transfer number maximum =
+    (configure_of core i Normal (record { kind = kind; transfer = transfer; number = number; maximum = maximum })).core
 
 abbrev pub armed_of : Core → ℕ → ℕ → ℕ → ℕ → Core
 armed_of core i buffer base length = (arm_of core i buffer base length).core

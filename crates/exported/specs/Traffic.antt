@@ -1,8 +1,10 @@
 -- Packets played one after another on the core, and the sum of what it answers.
-use Rattle.std.specs.Prelude.{ℕ, zero, suc, ◌+◌, ◌*◌, ◌%◌, cond, List, leb, length, get_or, take, drop}
+use Rattle.std.specs.Prelude.{ℕ, zero, suc, ◌+◌, ◌*◌, ◌%◌, cond, List, leb, length, get_or, take, drop, Result, Ok, Err}
+use Rattle.refusals.specs.declared.Refusal.{Refusal}
+use Rattle.refusals.specs.Refusals.{number}
 use Rattle.state.specs.declared.Core.{Core}
 use Rattle.bus.specs.declared.Answer.{Answer}
-use Rattle.bus.specs.declared.Answer.TheVariants.{Silent, Reply, Sof, Refused}
+use Rattle.bus.specs.declared.Answer.TheVariants.{Silent, Reply, Sof}
 use Rattle.bus.specs.Calls.{packet_of, timeout_of}
 use Rattle.exported.specs.declared.traffic.Played.{Played}
 use Rattle.exported.specs.Scene.{bulk_of}
@@ -15,14 +17,14 @@ pub record After : Type 0 where
   pub reply : List ℕ
 
 -- an answer as one number, with the PID byte of a reply
-abbrev pub number_of : Answer → List ℕ → ℕ
-number_of Silent reply = 1
-number_of (Reply n) reply = 16777216 + n % 65536 * 256 + get_or reply 0 0
-number_of (Sof frame) reply = 33554432 + frame
-number_of (Refused n) reply = 50331648 + n
+abbrev pub number_of : Result Answer Refusal → List ℕ → ℕ
+number_of (Ok Silent) reply = 1
+number_of (Ok (Reply n)) reply = 16777216 + n % 65536 * 256 + get_or reply 0 0
+number_of (Ok (Sof frame)) reply = 33554432 + frame
+number_of (Err why) reply = 50331648 + number why
 
 -- the order of the answers counts
-abbrev pub summed_of : ℕ → Answer → List ℕ → ℕ
+abbrev pub summed_of : ℕ → Result Answer Refusal → List ℕ → ℕ
 summed_of sum answer reply = sum % 4294967296 * 31 + number_of answer reply
 
 -- a packet arrives

@@ -6,15 +6,14 @@ mod traffic;
 
 ghost use Rattle.std.specs.Prelude.{◌≡◌, ◌≤◌, length};
 ghost use Rattle.wire.specs.Crc.{crc16};
-ghost use Rattle.wire.specs.Data.{verdict_of, verdict_number, payload_of, write_of, written, refusal, buffer_after};
+ghost use Rattle.refusals.specs.Refusals.{refusal, returned};
+ghost use Rattle.wire.specs.Data.{verdict_of, verdict_number, payload_of, write_of, buffer_after};
 ghost use Rattle.wire.specs.Token.{token_of};
 ghost use Rattle.exported.specs.Numbers.{token_number};
 ghost use Rattle.exported.specs.Scene.{set_up, yes_of, sound_of};
 ghost use Rattle.exported.specs.Traffic.{played_times, waited, unanswered};
 
 use state::{Core, sound, update};
-use wire::data::Written;
-use wire::token::Token;
 use wire::{crc, data, token};
 
 // The check of a payload.
@@ -24,40 +23,41 @@ pub fn hnitbrek_crc16(payload: &[u8]) -> u16
     crc::check(payload)
 }
 
-// Reads a data packet: lays down the verdict's number and returns the payload's length.
+// Reads a data packet: lays down the verdict's number, since C has no Option, and returns the payload's length.
 pub fn hnitbrek_read(packet: &[u8], verdict: &mut u8) -> usize
     ensures value { result ≡ length (payload_of packet.now) }
     ensures laid { verdict.new ≡ verdict_number (verdict_of packet.now) }
 {
-    let payload = data::read(packet, verdict);
-    payload.len()
+    let read = data::read(packet);
+    *verdict = read.verdict.map_or(0, u8::from);
+    read.payload.len()
 }
 
-// Writes a data packet: lays down the refusal's number, 0 for none, and returns the packet's length, 0 where refused.
+// Writes a data packet: lays down the refusal's number, 0 for none, since C has no Result, and returns the packet's length, 0 where refused.
 pub fn hnitbrek_write(pid: u32, payload: &[u8], buffer: &mut [u8], refused: &mut u8) -> usize
-    ensures value { result ≡ written (write_of pid payload.now buffer.old) }
+    ensures value { result ≡ returned (write_of pid payload.now buffer.old) }
     ensures laid { refused.new ≡ refusal (write_of pid payload.now buffer.old) }
     ensures left { buffer.new ≡ buffer_after pid payload.now buffer.old }
 {
     match data::write(pid, payload, buffer) {
-        Written::Packet(n) => {
+        Ok(n) => {
             *refused = 0;
             n
         }
-        Written::Refused(number) => {
-            *refused = number;
+        Err(why) => {
+            *refused = u8::from(why);
             0
         }
     }
 }
 
-// Reads a token: its eleven bits, or 2,048, which no eleven bits are.
+// Reads a token: its eleven bits, or 2,048, which no eleven bits are, since C has no Option.
 pub fn hnitbrek_token(packet: &[u8]) -> u32
     ensures { result ≡ token_number (token_of packet.now) }
 {
     match token::read(packet) {
-        Token::Good { frame, .. } => frame as u32,
-        Token::Bad => 2048,
+        Some(token) => token.frame as u32,
+        None => 2048,
     }
 }
 
@@ -66,7 +66,7 @@ fn yes(core: Core) -> u32
     ensures value { result ≡ yes_of core }
     ensures most { result ≤ 1 }
 {
-    if sound::is_sound(core) { 1 } else { 0 }
+    sound::is_sound(core) as u32
 }
 
 // How often the sound test says yes; the address differs each time, so that no test can be left out.
@@ -76,11 +76,9 @@ pub fn hnitbrek_sound(maximum: u32, times: u32) -> u32
 {
     let mut core = scene::set_up(maximum);
     let mut sound = 0u32;
-    let mut i = 0u32;
-    while i < times {
+    for i in 0..times {
         core = update::with_address(core, i % 128);
         sound += yes(core);
-        i += 1;
     }
     sound
 }

@@ -2,8 +2,7 @@
 ghost use Rattle.std.specs.Prelude.{◌≡◌};
 ghost use Rattle.exported.specs.Scene.{speed_of, room_of, live_of, armed_of, records_of, spans_of, bulk_of, set_up};
 
-use firmware::Outcome;
-use state::{Condition, Core, Kind, Speed, Transfer};
+use state::{Condition, Core, Endpoint, Kind, Speed, Transfer};
 
 // The records of the set-up, by index.
 const CONTROL: usize = 0;
@@ -25,13 +24,6 @@ const CONTROL_BASE: u32 = 32768;
 
 const INTERRUPT_BASE: u32 = 40960;
 
-// The state that a call leaves.
-fn after(o: Outcome) -> Core
-    ensures { result ≡ o.core }
-{
-    o.core
-}
-
 // At high speed a bulk maximum is 512, and at full speed it never is.
 #[tactic(auto, unfolding(crate::specs::Scene::speed_of))]
 fn speed_of(maximum: u32) -> Speed
@@ -51,24 +43,23 @@ fn room(maximum: u32) -> u32
     maximum % 1024 * 30
 }
 
+// The values of a record stand one by one: each is a row of the set-up, where a struct would take six lines.
 fn live(core: Core, index: usize, kind: Kind, transfer: Transfer, number: u32, maximum: u32) -> Core
     ensures { result ≡ live_of core index kind transfer number maximum }
 {
-    after(firmware::configure(
-        core,
-        index,
-        Condition::Normal,
+    let endpoint = Endpoint {
         kind,
         transfer,
         number,
         maximum,
-    ))
+    };
+    firmware::configure(core, index, Condition::Normal, endpoint).core
 }
 
 fn armed(core: Core, index: usize, buffer: u32, base: u32, length: u32) -> Core
     ensures { result ≡ armed_of core index buffer base length }
 {
-    after(firmware::arm(core, index, buffer, base, length))
+    firmware::arm(core, index, buffer, base, length).core
 }
 
 #[tactic(auto, unfolding(crate::specs::Scene::records_of))]
@@ -105,7 +96,7 @@ pub fn with_bulk(core: Core, maximum: u32) -> Core
 pub fn set_up(maximum: u32) -> Core
     ensures { result ≡ set_up maximum }
 {
-    let started = after(firmware::start(MEMORY_SIZE, speed_of(maximum)));
-    let addressed = after(firmware::set_address(started, 1));
+    let started = firmware::start(MEMORY_SIZE, speed_of(maximum)).core;
+    let addressed = firmware::set_address(started, 1).core;
     with_spans(with_records(addressed, maximum), maximum)
 }

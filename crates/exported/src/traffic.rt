@@ -1,9 +1,10 @@
 // Packets played on the core, one after another.
-ghost use Rattle.std.specs.Prelude.{◌≡◌, ◌+◌, ◌≤◌, min, length, get_or, drop};
-ghost use Rattle.exported.specs.Traffic.{number_of, summed_of, first_in, played_once, played_times, waited, beside, unanswered};
+ghost use Rattle.std.specs.Prelude.{◌≡◌, get_or};
+ghost use Rattle.exported.specs.Traffic.{number_of, summed_of, played_once, played_times, waited, beside, unanswered};
 
 use crate::scene;
 use bus::Answer;
+use refusals::Refusal;
 use state::Core;
 
 // The core, and the sum of what it answered so far.
@@ -17,70 +18,46 @@ pub struct Played {
 fn first_of(reply: &[u8]) -> u8
     ensures { result ≡ get_or reply.now 0 0 }
 {
-    if reply.len() == 0 {
-        return 0;
-    }
-    reply[0]
+    reply.first().copied().unwrap_or(0)
 }
 
 // An answer as one number.
-fn number_of(answer: Answer, reply: &[u8]) -> u32
+fn number_of(answer: Result<Answer, Refusal>, reply: &[u8]) -> u32
     ensures { result ≡ number_of answer reply.now }
 {
     match answer {
-        Answer::Silent => 1,
-        Answer::Reply(n) => 0x100_0000 + (n % 65536) as u32 * 256 + first_of(reply) as u32,
-        Answer::Sof(frame) => 0x200_0000 + frame as u32,
-        Answer::Refused(refusal) => 0x300_0000 + refusal as u32,
+        Ok(Answer::Silent) => 1,
+        Ok(Answer::Reply(n)) => 0x100_0000 + (n % 65536) as u32 * 256 + first_of(reply) as u32,
+        Ok(Answer::Sof(frame)) => 0x200_0000 + frame as u32,
+        Err(refusal) => 0x300_0000 + u32::from(refusal),
     }
 }
 
 // The order of the answers counts.
-fn summed(sum: u64, answer: Answer, reply: &[u8]) -> u64
+fn summed(sum: u64, answer: Result<Answer, Refusal>, reply: &[u8]) -> u64
     ensures { result ≡ summed_of sum answer reply.now }
 {
     sum % 0x1_0000_0000 * 31 + number_of(answer, reply) as u64
 }
 
-fn wide(byte: u8) -> usize
-    ensures value { result ≡ byte }
-    ensures most { result ≤ 255 }
-{
-    byte as usize
-}
+// Memory and reply stand side by side in each of these, as bus takes them: a struct of two `&mut` would be made anew at each call.
+// Maximum, list and times stand one by one, as the C functions take them.
 
-fn smaller(a: usize, b: usize) -> usize
-    ensures { result ≡ min a b }
-{
-    if a < b { a } else { b }
-}
-
-// The packet at a place of the list: two bytes that say its length, low byte first, and its bytes; cut where the list ends.
-fn packet_at(list: &[u8], at: usize) -> &[u8]
-    requires { at + 2 ≤ length list.now }
-    ensures result_value { result.now ≡ first_in (drop at list.now) }
-    ensures most { at + 2 + length result.now ≤ length list.now }
-{
-    let said = wide(list[at]) + wide(list[at + 1]) * 256;
-    let start = at + 2;
-    let end = start + smaller(said, list.len() - start);
-    &list[start..end]
-}
-
-// Every packet of the list, once. The core stands in one local: a copy that no call needs would be measured too.
+// Every packet of the list, once: two bytes say its length, low byte first, so the list has no chunks of one size; it is cut where it ends.
+// The core stands in one local: a copy that no call needs would be measured too.
 fn pass(before: Played, list: &[u8], memory: &mut [u8], reply: &mut [u8]) -> Played
     ensures { beside result memory.new reply.new ≡ played_once (beside before memory.old reply.old) list.now }
 {
     let mut core = before.core;
     let mut sum = before.sum;
-    let mut at = 0;
-    while 2 <= list.len() - at {
-        let packet = packet_at(list, at);
+    let mut left = list;
+    while let [low, high, rest @ ..] = left {
+        let said = u16::from_le_bytes([*low, *high]) as usize;
+        let (packet, later) = rest.split_at(said.min(rest.len()));
         let o = bus::packet(core, memory, reply, packet);
         core = o.core;
-        let answer = o.answer;
-        sum = summed(sum, answer, reply);
-        at = at + 2 + packet.len();
+        sum = summed(sum, o.answer, reply);
+        left = later;
     }
     Played { core, sum }
 }
@@ -97,15 +74,12 @@ pub fn passes(
     ensures { beside result memory.new reply.new ≡ played_times maximum list.now times (unanswered core memory.old reply.old) }
 {
     let mut now = Played { core, sum: 0 };
-    let mut i = 0u32;
-    while i < times {
+    for _ in 0..times {
         let played = pass(now, list, memory, reply);
-        let used = played.core;
         now = Played {
-            core: scene::with_bulk(used, maximum),
-            sum: played.sum,
+            core: scene::with_bulk(played.core, maximum),
+            ..played
         };
-        i += 1;
     }
     now
 }
@@ -116,17 +90,13 @@ pub fn waits(before: Core, packet: &[u8], times: u32, memory: &mut [u8], reply: 
 {
     let mut core = before;
     let mut sum = 0u64;
-    let mut i = 0u32;
-    while i < times {
-        i += 1;
+    for _ in 0..times {
         let arrived = bus::packet(core, memory, reply, packet);
         core = arrived.core;
-        let answer = arrived.answer;
-        sum = summed(sum, answer, reply);
+        sum = summed(sum, arrived.answer, reply);
         let ended = bus::timeout(core, memory, reply);
         core = ended.core;
-        let last = ended.answer;
-        sum = summed(sum, last, reply);
+        sum = summed(sum, ended.answer, reply);
     }
     Played { core, sum }
 }

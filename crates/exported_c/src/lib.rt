@@ -3,7 +3,8 @@
 
 ghost use Rattle.std.specs.Prelude.{◌≡◌, ◌≤◌, length};
 ghost use Rattle.wire.specs.Crc.{crc16};
-ghost use Rattle.wire.specs.Data.{verdict_of, verdict_number, payload_of, write_of, written, refusal, buffer_after};
+ghost use Rattle.refusals.specs.Refusals.{refusal, returned};
+ghost use Rattle.wire.specs.Data.{verdict_of, verdict_number, payload_of, write_of, buffer_after};
 ghost use Rattle.wire.specs.Token.{token_of};
 ghost use Rattle.exported.specs.Numbers.{token_number};
 ghost use Rattle.exported.specs.Scene.{set_up, sound_of};
@@ -17,7 +18,7 @@ pub extern "C" fn hnitbrek_crc16(payload: &[u8]) -> u16
     exported::hnitbrek_crc16(payload)
 }
 
-// Reads a data packet: lays down the verdict's number and returns the payload's length.
+// Reads a data packet: lays down the verdict's number, since C has no Option, and returns the payload's length.
 #[unsafe(no_mangle)]
 pub extern "C" fn hnitbrek_read(packet: &[u8], verdict: &mut u8) -> usize
     ensures value { result ≡ length (payload_of packet.now) }
@@ -26,7 +27,7 @@ pub extern "C" fn hnitbrek_read(packet: &[u8], verdict: &mut u8) -> usize
     exported::hnitbrek_read(packet, verdict)
 }
 
-// Writes a data packet: lays down the refusal's number, 0 for none, and returns the packet's length, 0 where refused.
+// Writes a data packet: lays down the refusal's number, 0 for none, since C has no Result, and returns the packet's length, 0 where refused.
 #[unsafe(no_mangle)]
 pub extern "C" fn hnitbrek_write(
     pid: u32,
@@ -34,14 +35,14 @@ pub extern "C" fn hnitbrek_write(
     buffer: &mut [u8],
     refused: &mut u8,
 ) -> usize
-    ensures value { result ≡ written (write_of pid payload.now buffer.old) }
+    ensures value { result ≡ returned (write_of pid payload.now buffer.old) }
     ensures laid { refused.new ≡ refusal (write_of pid payload.now buffer.old) }
     ensures left { buffer.new ≡ buffer_after pid payload.now buffer.old }
 {
     exported::hnitbrek_write(pid, payload, buffer, refused)
 }
 
-// Reads a token: its eleven bits, or 2,048, which no eleven bits are.
+// Reads a token: its eleven bits, or 2,048, which no eleven bits are, since C has no Option.
 #[unsafe(no_mangle)]
 pub extern "C" fn hnitbrek_token(packet: &[u8]) -> u32
     ensures { result ≡ token_number (token_of packet.now) }

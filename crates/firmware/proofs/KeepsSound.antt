@@ -4,13 +4,16 @@ use native.Mathlib.Omega.{arith}
 use native.Mathlib.Nat.{mod-eq_of_lt, sub-zero}
 use mathlib.Core.Path.{◌≡◌, refl, sym, ◌∙◌, ap}
 use mathlib.Core.Bool.{Bool, true, false, not, ◌&&◌, ◌||◌, cond, beq, true≢false}
-use mathlib.Core.List.{[], ◌∷◌}
+use mathlib.Core.List.{[]}
+use Rattle.std.specs.Prelude.{Result, Ok, Err}
 use lib.Dec.{ltb, eqb}
 use lib.ListN.{set}
 use borrow.Author.Tests.{ltb-true, ltb-false, lt-ltb, eqb-true, eqb-false, eq-eqb, not-false}
 use Rattle.laws.specs.Lists.{all, pairs}
 use Rattle.laws.proofs.Bools.{neither}
-use Rattle.laws.proofs.First.{passed}
+use Rattle.refusals.specs.declared.Refusal.{Refusal}
+use Rattle.refusals.specs.Refusals.{judged}
+use Rattle.refusals.proofs.Judging.{judged_passed}
 use Rattle.state.specs.declared.Speed.{Speed}
 use Rattle.state.specs.declared.Speed.TheVariants.{Full}
 use Rattle.state.specs.declared.Condition.{Condition}
@@ -30,31 +33,28 @@ use Rattle.state.specs.Update.{no_events, no_system_events, data0, fresh, off_re
 use Rattle.state.specs.Ranges.{live, is_armed, is_unused, out_side, no_multiple, misplaced, mark_fits, toggles_fit, endpoint_fits, ArmedSound, DescriptorSound, SoundAs, RecordSound}
 use Rattle.state.specs.Served.{beside}
 use Rattle.state.specs.Spans.{span_from, apart, spans_in, spans_of, armed_spans}
-use Rattle.state.specs.Sound.{is_sound, sends, WaitSound, Sound}
+use Rattle.state.specs.Sound.{sends, WaitSound, Sound}
 use Rattle.state.proofs.Ends.{off_beside_all}
 use Rattle.state.proofs.Kept.{as_live, from_live, with_buffer_sound, emptied_apart, filled_apart, same_apart, same_served, other_served, wait_kept, replaced, all_off}
-use Rattle.firmware.specs.Answers.{accepted, refused, judged, settled}
-use Rattle.firmware.specs.Device.{start_of, address_tests, set_address_of, after_reset, bus_reset_of, system_events_of}
+use Rattle.firmware.specs.Answers.{settled}
+use Rattle.firmware.specs.Device.{start_tests, start_of, address_tests, set_address_of, sound_tests, after_reset, bus_reset_of, system_events_of}
 use Rattle.firmware.specs.Records.{waits_on, in_use, served_elsewhere, index_tests, configure_tests, configure_of, halt_tests, set_halt_of, clear_halt_of, record_events_of}
 use Rattle.firmware.specs.Buffers.{is_second, shares_byte, arm_tests, armed, arm_of, disarm_tests, disarm_of}
 
 -- a call that is not refused gives the state after it, any other the state before it
-settled_sound : (n : ℕ) (before after : Core) (number : ℕ) → Sound before → (n ≡ 0 → Sound after) → Sound (settled n before after number).core
+settled_sound : (r : Result Unit Refusal) (before after : Core) (number : ℕ) → Sound before → (r ≡ Ok tt → Sound after) → Sound (settled r before after number).core
 unfolding settled
-settled_sound n before after number w f = pick (eqb n 0) refl
-  where
-    pick : (b : Bool) → eqb n 0 ≡ b → Sound (cond b (accepted after number) (refused before n)).core
-    pick true e = f (eqb-true n 0 e)
-    pick false e = w
+settled_sound (Ok done) before after number w f = f refl
+settled_sound (Err why) before after number w f = w
 
 -- ---- the core as a whole
 
 pub start_sound : (M : ℕ) (speed : Speed) → Sound (start_of M speed).core
 unfolding start_of
 start_sound M speed =
-    settled_sound (judged ((ltb 131072 M, 15) ∷ [])) (started 0 Full) (started M speed) 0
+    settled_sound (judged (start_tests M)) (started 0 Full) (started M speed) 0
     (all_off (started 0 Full) (omega arith) (omega arith) refl refl)
-    (λ e. all_off (started M speed) (ltb-false 131072 M (passed ((ltb 131072 M, 15) ∷ []) (omega arith, tt) e).0) (omega arith) refl refl)
+    (λ e. all_off (started M speed) (ltb-false 131072 M (judged_passed (start_tests M) e).0) (omega arith) refl refl)
 
 pub set_address_sound : (core : Core) (address : ℕ) → Sound core → Sound (set_address_of core address).core
 unfolding set_address_of
@@ -63,7 +63,7 @@ set_address_sound core address w =
     (λ e. record {
       sixteen = w.sixteen;
       memory_within = w.memory_within;
-      address_within = ltb-false 127 address (passed (address_tests core address) (omega arith, (omega arith, tt)) e).1.0;
+      address_within = ltb-false 127 address (judged_passed (address_tests core address) e).1.0;
       each_record = w.each_record;
       served_once = w.served_once;
       spans_apart = w.spans_apart;
@@ -78,13 +78,13 @@ set_address_sound core address w =
 pub bus_reset_sound : (core : Core) (speed : Speed) → Sound core → Sound (bus_reset_of core speed).core
 unfolding bus_reset_of
 bus_reset_sound core speed w =
-    settled_sound (judged ((not (is_sound core), 1) ∷ [])) core (after_reset core speed) 0 w
+    settled_sound (judged (sound_tests core)) core (after_reset core speed) 0 w
     (λ e. all_off (after_reset core speed) w.memory_within w.address_within refl refl)
 
 pub system_events_sound : (core : Core) → Sound core → Sound (system_events_of core).core
 unfolding system_events_of
 system_events_sound core w =
-    settled_sound (judged ((not (is_sound core), 1) ∷ [])) core (with_system_events core no_system_events) _ w
+    settled_sound (judged (sound_tests core)) core (with_system_events core no_system_events) _ w
     (λ e. record {
       sixteen = w.sixteen;
       memory_within = w.memory_within;
@@ -139,7 +139,7 @@ module _ (core : Core) (w : Sound core) (i : ℕ) where
   unfolding set_halt_of
   set_halt_sound =
       settled_sound (judged (halt_tests core i)) core _ 0 w
-      (λ e. let p = passed (halt_tests core i) (omega arith, (omega arith, (omega arith, (omega arith, tt)))) e in
+      (λ e. let p = judged_passed (halt_tests core i) e in
       let h = index i p.1.0 in
       let l = not-false (live (record_at core i).condition) p.1.1.1.0 in
       let s = as_live (record_at core i).condition core.memory_size core.speed (record_at core i) l (w.each_record i h) in
@@ -149,7 +149,7 @@ module _ (core : Core) (w : Sound core) (i : ℕ) where
   unfolding clear_halt_of
   clear_halt_sound =
       settled_sound (judged (halt_tests core i)) core _ 0 w
-      (λ e. let p = passed (halt_tests core i) (omega arith, (omega arith, (omega arith, (omega arith, tt)))) e in
+      (λ e. let p = judged_passed (halt_tests core i) e in
       revived (index i p.1.0) Normal refl (not-false (live (record_at core i).condition) p.1.1.1.0) data0 (toggles_zero (record_at core i).endpoint.kind) p.1.1.0)
 
 -- ---- a record's events
@@ -165,7 +165,7 @@ pub record_events_sound : (core : Core) (i : ℕ) → Sound core → Sound (reco
 unfolding record_events_of
 record_events_sound core i w =
     settled_sound (judged (index_tests core i [])) core _ _ w
-    (λ e. let h = index i (passed (index_tests core i []) (omega arith, (omega arith, tt)) e).1.0 in
+    (λ e. let h = index i (judged_passed (index_tests core i []) e).1.0 in
     replaced core w i h (with_events (record_at core i) no_events)
     (events_kept (record_at core i).condition core.memory_size core.speed (record_at core i) (w.each_record i h))
     (same_served core w i h (with_events (record_at core i) no_events) refl)
@@ -211,15 +211,15 @@ pub configure_sound : (core : Core) (i : ℕ) (condition : Condition) (e : Endpo
 unfolding configure_of
 configure_sound core i Off e w =
     settled_sound (judged (configure_tests core i Off e)) core _ 0 w
-    (λ n. let p = passed (configure_tests core i Off e) (omega arith, (omega arith, (omega arith, tt))) n in
+    (λ n. let p = judged_passed (configure_tests core i Off e) n in
     put core w i (index i p.1.0) p.1.1.0 off_record refl (off_beside_all (set core.records i off_record)) refl)
 configure_sound core i Normal e w =
     settled_sound (judged (configure_tests core i Normal e)) core _ 0 w
-    (λ n. let p = passed (configure_tests core i Normal e) (omega arith, (omega arith, (omega arith, (omega arith, (omega arith, tt))))) n in
+    (λ n. let p = judged_passed (configure_tests core i Normal e) n in
     fresh_sound core w i (index i p.1.0) p.1.1.0 e (not-false (endpoint_fits core.speed e) p.1.1.1.0) p.1.1.1.1.0)
 configure_sound core i Halted e w =
     settled_sound (judged (configure_tests core i Halted e)) core _ 0 w
-    (λ n. absurd (true≢false (passed (configure_tests core i Halted e) (omega arith, (omega arith, (omega arith, (omega arith, tt)))) n).1.1.1.0))
+    (λ n. absurd (true≢false (judged_passed (configure_tests core i Halted e) n).1.1.1.0))
 
 -- ---- arm and disarm
 
@@ -290,14 +290,14 @@ pub arm_sound : (core : Core) (i buffer base length : ℕ) → Sound core → So
 unfolding arm_of
 arm_sound core i buffer base length w =
     settled_sound (judged (arm_tests core i buffer base length)) core _ 0 w
-    (λ e. let p = passed (arm_tests core i buffer base length) (omega arith, (omega arith, (omega arith, (omega arith, (omega arith, (omega arith, (omega arith, tt))))))) e in
+    (λ e. let p = judged_passed (arm_tests core i buffer base length) e in
     armed_keeps core w i (index i p.1.0) (not-false (live (record_at core i).condition) p.1.1.0) (is_second buffer) base length p.1.1.1.1.0 p.1.1.1.1.1.0 p.1.1.1.1.1.1.0)
 
 pub disarm_sound : (core : Core) (i buffer : ℕ) → Sound core → Sound (disarm_of core i buffer).core
 unfolding disarm_of
 disarm_sound core i buffer w =
     settled_sound (judged (disarm_tests core i buffer)) core _ _ w
-    (λ e. let p = passed (disarm_tests core i buffer) (omega arith, (omega arith, (omega arith, (omega arith, (omega arith, (omega arith, tt)))))) e in
+    (λ e. let p = judged_passed (disarm_tests core i buffer) e in
     let h = index i p.1.0 in
     buffer_given core w i h (not-false (live (record_at core i).condition) p.1.1.1.0) (is_second buffer) Unallocated tt
     (emptied_apart core w i h (is_second buffer))

@@ -2,50 +2,55 @@
 -- and no other number. One law, and a line for each call. Assumes nothing.
 use Prim.Native.Nat.{ℕ}
 use mathlib.Core.Path.{◌≡◌, refl, sym, ◌∙◌}
-use mathlib.Core.Bool.{Bool, true, false, cond}
+use mathlib.Core.Bool.{Bool}
 use mathlib.Core.List.{List, []}
-use lib.Dec.{eqb}
-use borrow.Author.Tests.{eqb-true}
-use Rattle.laws.proofs.First.{Given, given, first}
+use Rattle.std.specs.Prelude.{Result, Ok, Err}
+use Rattle.laws.proofs.First.{Given, Passed}
+use Rattle.refusals.specs.declared.Refusal.{Refusal}
+use Rattle.refusals.specs.Refusals.{judged, numbered, refusal, returned}
+use Rattle.refusals.proofs.Judging.{judged_passed, number_only_when, number_whenever}
 use Rattle.state.specs.declared.Speed.{Speed}
 use Rattle.state.specs.declared.Speed.TheVariants.{Full}
 use Rattle.state.specs.declared.Condition.{Condition}
 use Rattle.state.specs.declared.Endpoint.{Endpoint}
 use Rattle.state.specs.declared.Core.{Core}
+use Rattle.state.specs.declared.Outcome.{Outcome}
 use Rattle.state.specs.Update.{started}
-use Rattle.firmware.specs.declared.answer.Outcome.{Outcome}
-use Rattle.firmware.specs.Answers.{refusal, returned, accepted, refused, judged, settled}
+use Rattle.firmware.specs.Answers.{accepted, refused, settled}
 use Rattle.firmware.specs.Device.{start_tests, start_of, address_tests, set_address_of, sound_tests, bus_reset_of, system_events_of}
 use Rattle.firmware.specs.Records.{index_tests, configure_tests, configure_of, halt_tests, set_halt_of, clear_halt_of, record_events_of}
 use Rattle.firmware.specs.Buffers.{arm_tests, arm_of, disarm_tests, disarm_of}
 
 -- what an outcome of a call on a state says of its tests
-pub record Judges (tests : List (Bool × ℕ)) (before : Core) (o : Outcome) : Type 0 where
-  pub only_when : (n : ℕ) → refusal o.answer ≡ n → Given tests 0 n
-  pub whenever : (n : ℕ) → Given tests 0 n → refusal o.answer ≡ n
+pub record Judges (tests : List (Bool × Refusal)) (before : Core) (o : Outcome ℕ) : Type 0 where
+  pub only_when : (n : ℕ) → refusal o.answer ≡ n → Given (numbered tests) 0 n
+  pub whenever : (n : ℕ) → Given (numbered tests) 0 n → refusal o.answer ≡ n
   pub kept : (refusal o.answer ≡ 0 → ⊥) → (o.core ≡ before) × (returned o.answer ≡ 0)
 
-answered : (n : ℕ) (before after : Core) (number : ℕ) → refusal (settled n before after number).answer ≡ n
+-- what holds of the outcome where no test holds, and of that of each refusal, holds of the outcome
+pub settled_by : (P : Outcome ℕ → Type 0) (tests : List (Bool × Refusal)) (before after : Core) (number : ℕ) → (Passed tests → P (accepted after number)) → ((why : Refusal) → P (refused before why)) → P (settled (judged tests) before after number)
 unfolding settled
-answered n before after number = pick (eqb n 0) refl
+settled_by P tests before after number f g = pick (judged tests) (judged_passed tests)
   where
-    pick : (b : Bool) → eqb n 0 ≡ b → refusal (cond b (accepted after number) (refused before n)).answer ≡ n
-    pick true e = sym (eqb-true n 0 e)
-    pick false e = refl
+    pick : (r : Result Unit Refusal) → (r ≡ Ok tt → Passed tests) → P (settled r before after number)
+    pick (Ok done) p = f (p refl)
+    pick (Err why) p = g why
 
-unchanged : (n : ℕ) (before after : Core) (number : ℕ) → (n ≡ 0 → ⊥) → ((settled n before after number).core ≡ before) × (returned (settled n before after number).answer ≡ 0)
+answered : (r : Result Unit Refusal) (before after : Core) (number : ℕ) → refusal (settled r before after number).answer ≡ refusal r
 unfolding settled
-unchanged n before after number h = pick (eqb n 0) refl
-  where
-    pick : (b : Bool) → eqb n 0 ≡ b → ((cond b (accepted after number) (refused before n)).core ≡ before) × (returned (cond b (accepted after number) (refused before n)).answer ≡ 0)
-    pick true e = absurd (h (eqb-true n 0 e))
-    pick false e = (refl, refl)
+answered (Ok done) before after number = refl
+answered (Err why) before after number = refl
 
-judges : (tests : List (Bool × ℕ)) (before after : Core) (number : ℕ) → Judges tests before (settled (judged tests) before after number)
+unchanged : (r : Result Unit Refusal) (before after : Core) (number : ℕ) → (refusal r ≡ 0 → ⊥) → ((settled r before after number).core ≡ before) × (returned (settled r before after number).answer ≡ 0)
+unfolding settled
+unchanged (Ok done) before after number h = absurd (h refl)
+unchanged (Err why) before after number h = (refl, refl)
+
+judges : (tests : List (Bool × Refusal)) (before after : Core) (number : ℕ) → Judges tests before (settled (judged tests) before after number)
 judges tests before after number =
     record {
-      only_when = λ n e. given tests 0 n (sym (answered (judged tests) before after number) ∙ e);
-      whenever = λ n g. answered (judged tests) before after number ∙ first tests 0 n g;
+      only_when = λ n e. number_only_when tests n (sym (answered (judged tests) before after number) ∙ e);
+      whenever = λ n g. answered (judged tests) before after number ∙ number_whenever tests n g;
       kept = λ h. unchanged (judged tests) before after number (λ e. h (answered (judged tests) before after number ∙ e));
     }
 

@@ -3,11 +3,10 @@ use Prim.Native.Nat.{ℕ}
 use Rattle.laws.proofs.Once.{Once, once}
 use Rattle.state.specs.declared.Speed.{Speed}
 use Rattle.state.specs.declared.Condition.{Condition}
-use Rattle.state.specs.declared.Kind.{Kind}
-use Rattle.state.specs.declared.Transfer.{Transfer}
+use Rattle.state.specs.declared.Endpoint.{Endpoint}
 use Rattle.state.specs.declared.Core.{Core}
 use Rattle.firmware.specs.Device.{start_of, set_address_of, bus_reset_of, system_events_of}
-use Rattle.firmware.specs.Records.{endpoint_of, configure_of, set_halt_of, clear_halt_of, record_events_of}
+use Rattle.firmware.specs.Records.{configure_of, set_halt_of, clear_halt_of, record_events_of}
 use Rattle.firmware.specs.Buffers.{arm_of, disarm_of}
 
 pub start_once : (M : ℕ) (speed : Speed) → Once (start_of M speed)
@@ -24,8 +23,8 @@ module _ (core : Core) where
   system_events_once = once _
 
   module _ (i : ℕ) where
-    pub configure_once : (condition : Condition) (kind : Kind) (transfer : Transfer) (number maximum : ℕ) → Once (configure_of core i condition (endpoint_of kind transfer number maximum))
-    configure_once condition kind transfer number maximum = once _
+    pub configure_once : (condition : Condition) (e : Endpoint) → Once (configure_of core i condition e)
+    configure_once condition e = once _
 
     pub set_halt_once : Once (set_halt_of core i)
     set_halt_once = once _

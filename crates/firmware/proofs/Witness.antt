@@ -2,6 +2,7 @@
 -- spans and a wait exist. Assumes nothing.
 use mathlib.Core.Path.{◌≡◌, refl}
 use mathlib.Core.Bool.{true, false}
+use Rattle.refusals.specs.Refusals.{refusal}
 use Rattle.state.specs.declared.Speed.TheVariants.{Full}
 use Rattle.state.specs.declared.Condition.TheVariants.{Normal}
 use Rattle.state.specs.declared.Kind.TheVariants as kind
@@ -15,19 +16,19 @@ use Rattle.state.specs.Served.{beside}
 use Rattle.state.specs.Spans.{share_byte}
 use Rattle.state.specs.Sound.{Sound, is_sound}
 use Rattle.state.proofs.Tested.{tested}
-use Rattle.firmware.specs.Answers.{refusal, settled}
+use Rattle.firmware.specs.Answers.{settled}
 use Rattle.firmware.specs.Device.{start_of}
-use Rattle.firmware.specs.Records.{in_use, served_elsewhere, endpoint_of, configure_of}
+use Rattle.firmware.specs.Records.{in_use, served_elsewhere, configure_of}
 use Rattle.firmware.specs.Buffers.{shares_byte, arm_of}
 
 abbrev empty : Core
 empty = (start_of 256 Full).core
 
 abbrev control : Core
-control = (configure_of empty 0 Normal (endpoint_of kind.Control transfer.Control 0 8)).core
+control = (configure_of empty 0 Normal (record { kind = kind.Control; transfer = transfer.Control; number = 0; maximum = 8 })).core
 
 abbrev both : Core
-both = (configure_of control 1 Normal (endpoint_of kind.In transfer.Bulk 1 8)).core
+both = (configure_of control 1 Normal (record { kind = kind.In; transfer = transfer.Bulk; number = 1; maximum = 8 })).core
 
 abbrev taking : Core
 taking = (arm_of both 0 0 0 16).core

@@ -2,34 +2,22 @@
 ghost use Rattle.std.specs.Prelude.{◌≡◌};
 ghost use Rattle.firmware.specs.Answers.{settled};
 
-use state::Core;
+use refusals::Refusal;
+use state::{Core, Outcome};
 
-// Done, with the number that the call returns, 0 where it returns none; or refused, with the number of the refusal.
-#[derive(Clone, Copy)]
-pub enum Answer {
-    Done(u32),
-    Refused(u8),
-}
-
-#[derive(Clone, Copy)]
-pub struct Outcome {
-    pub core: Core,
-    pub answer: Answer,
-}
-
-// A refused call returns the state as it was.
+// Done, with the number that the call returns, 0 where it returns none; or refused. A refused call returns the state as it was.
 #[tactic(auto, unfolding(crate::specs::Answers::settled))]
-pub fn settle(refusal: u8, before: Core, after: Core, number: u32) -> Outcome
-    ensures { result ≡ settled refusal before after number }
+pub fn settle(judged: Result<(), Refusal>, before: Core, after: Core, number: u32) -> Outcome<u32>
+    ensures { result ≡ settled judged before after number }
 {
-    if refusal == 0 {
-        return Outcome {
+    match judged {
+        Ok(()) => Outcome {
             core: after,
-            answer: Answer::Done(number),
-        };
-    }
-    Outcome {
-        core: before,
-        answer: Answer::Refused(refusal),
+            answer: Ok(number),
+        },
+        Err(refusal) => Outcome {
+            core: before,
+            answer: Err(refusal),
+        },
     }
 }

@@ -8,7 +8,8 @@ use lib.Dec.{eqb, leb}
 use Rattle.laws.specs.Lists.{all}
 use Rattle.laws.proofs.Bools.{both}
 use borrow.Author.Tests.{eqb-true, leb-true, leb-false, le-ltb}
-use Rattle.frame.specs.declared.Answer.TheVariants.{Repeats, Refused}
+use Rattle.std.specs.Prelude.{Ok, Err}
+use Rattle.refusals.specs.declared.Refusal.TheVariants.{NoSuchFrame}
 use Rattle.frame.specs.Frames.{outcome, no_run_gives, repeats_after, counted_of}
 use Rattle.frame.specs.History.{directly_before, repeats_of, last_of, taken, run}
 use Rattle.frame.proofs.Steps.{taken_call, refused_call}
@@ -46,10 +47,10 @@ pub run_passes : (numbers : List ℕ) → no_run_gives (run numbers) ≡ false
 run_passes numbers = rw (run_last numbers) (last_passes numbers)
 
 module _ (numbers : List ℕ) (number : ℕ) where
-  pub by_history : number ≤ 2047 → counted_of (run numbers) number ≡ outcome (last_of (number ∷ taken numbers)) (Repeats (repeats_of (taken numbers) number))
+  pub by_history : number ≤ 2047 → counted_of (run numbers) number ≡ outcome (last_of (number ∷ taken numbers)) (Ok (repeats_of (taken numbers) number))
   by_history small = taken_call (run numbers) number small (run_passes numbers) ∙ rw (run_last numbers, counts (taken numbers) number)
 
-  pub refused_by_history : 2047 < number → counted_of (run numbers) number ≡ outcome (run numbers) (Refused 16)
+  pub refused_by_history : 2047 < number → counted_of (run numbers) number ≡ outcome (run numbers) (Err NoSuchFrame)
   refused_by_history large = refused_call (run numbers) number large
 
 -- where no call was refused, the history is the whole list
@@ -57,5 +58,5 @@ pub all_taken : (history : List ℕ) → all (λ n. leb n 2047) history ≡ true
 all_taken [] h = refl
 all_taken (newest ∷ older) h = let (first, rest) = both (leb newest 2047) (all (λ n. leb n 2047) older) h in simp (first, all_taken older rest)
 
-pub by_taken_history : (history : List ℕ) (number : ℕ) → all (λ n. leb n 2047) history ≡ true → number ≤ 2047 → counted_of (run history) number ≡ outcome (last_of (number ∷ history)) (Repeats (repeats_of history number))
+pub by_taken_history : (history : List ℕ) (number : ℕ) → all (λ n. leb n 2047) history ≡ true → number ≤ 2047 → counted_of (run history) number ≡ outcome (last_of (number ∷ history)) (Ok (repeats_of history number))
 by_taken_history history number h small = rw (all_taken history h) at (by_history history number small)

@@ -7,24 +7,27 @@ use mathlib.Core.List.{List, [], ◌∷◌}
 use mathlib.Core.Logic.{inl, inr}
 use lib.Dec.{ltb}
 use borrow.Author.Tests.{ltb-true, lt-ltb}
-use Rattle.laws.specs.Lists.{first_of}
-use Rattle.laws.proofs.First.{Given, given, first}
+use Rattle.laws.proofs.First.{Given}
+use Rattle.refusals.specs.declared.Refusal.{Refusal}
+use Rattle.refusals.specs.declared.Refusal.TheVariants.{NoSuchFrame}
+use Rattle.refusals.specs.Refusals.{judged, numbered, refusal, returned}
+use Rattle.refusals.proofs.Judging.{number_only_when, number_whenever}
 use Rattle.frame.specs.declared.Frame.{Frame}
 use Rattle.frame.specs.declared.Outcome.{Outcome}
-use Rattle.frame.specs.Frames.{refusal, returned, no_run_gives, frame_tests, accepted, settled, counted_of}
+use Rattle.frame.specs.Frames.{no_run_gives, frame_tests, accepted, settled, counted_of}
 use Rattle.frame.specs.History.{Row16}
 use Rattle.frame.proofs.Runs.{no_run, no_run_only}
 
 -- what an outcome of a call on a frame record says of its tests
-pub record Judges (tests : List (Bool × ℕ)) (before : Frame) (o : Outcome) : Type 0 where
-  pub only_when : (n : ℕ) → refusal o.answer ≡ n → Given tests 0 n
-  pub whenever : (n : ℕ) → Given tests 0 n → refusal o.answer ≡ n
+pub record Judges (tests : List (Bool × Refusal)) (before : Frame) (o : Outcome) : Type 0 where
+  pub only_when : (n : ℕ) → refusal o.answer ≡ n → Given (numbered tests) 0 n
+  pub whenever : (n : ℕ) → Given (numbered tests) 0 n → refusal o.answer ≡ n
   pub kept : (refusal o.answer ≡ 0 → ⊥) → (o.frame ≡ before) × (returned o.answer ≡ 0)
 
 module _ (frame : Frame) (number : ℕ) where
-  judges : (b : Bool) → Judges ((b, 16) ∷ []) frame (settled (first_of ((b, 16) ∷ []) 0) frame (accepted frame number))
-  judges true = record { only_when = given ((true, 16) ∷ []) 0; whenever = first ((true, 16) ∷ []) 0; kept = λ h. (refl, refl) }
-  judges false = record { only_when = given ((false, 16) ∷ []) 0; whenever = first ((false, 16) ∷ []) 0; kept = λ h. absurd (h refl) }
+  judges : (b : Bool) → Judges ((b, NoSuchFrame) ∷ []) frame (settled (judged ((b, NoSuchFrame) ∷ [])) frame (accepted frame number))
+  judges true = record { only_when = number_only_when ((true, NoSuchFrame) ∷ []); whenever = number_whenever ((true, NoSuchFrame) ∷ []); kept = λ h. (refl, refl) }
+  judges false = record { only_when = number_only_when ((false, NoSuchFrame) ∷ []); whenever = number_whenever ((false, NoSuchFrame) ∷ []); kept = λ h. absurd (h refl) }
 
   pub counted_judges : Judges (frame_tests frame number) frame (counted_of frame number)
   unfolding counted_of
@@ -44,6 +47,6 @@ module _ (frame : Frame) (number : ℕ) where
       either true e h = inl (ltb-true 2047 number e)
       either false e h = inr (no_run frame h)
 
-      pick : Given (frame_tests frame number) 0 16 → Row16 frame number
+      pick : Given (numbered (frame_tests frame number)) 0 16 → Row16 frame number
       pick (inl h) = either (ltb 2047 number) refl h.0
       pick (inr h) = absurd (omega (arith, h.1))

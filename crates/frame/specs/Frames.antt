@@ -1,21 +1,13 @@
 -- Document 01, "Frames (001)", and refusal 16.
-use Rattle.std.specs.Prelude.{ℕ, suc, min, Bool, true, false, not, ◌||◌, cond, List, [], ◌∷◌, eqb, ltb}
+use Rattle.std.specs.Prelude.{ℕ, suc, min, Bool, true, false, not, ◌||◌, cond, List, [], ◌∷◌, Result, Ok, Err, eqb, ltb}
 use Rattle.laws.specs.Lists.{first_of}
 use Rattle.frame.specs.declared.Frame.{Frame}
-use Rattle.frame.specs.declared.Answer.{Answer}
-use Rattle.frame.specs.declared.Answer.TheVariants.{Repeats, Refused}
 use Rattle.frame.specs.declared.Outcome.{Outcome}
+use Rattle.refusals.specs.declared.Refusal.{Refusal}
+use Rattle.refusals.specs.declared.Refusal.TheVariants.{NoSuchFrame}
+use Rattle.refusals.specs.Refusals.{judged}
 
--- this paper's numbers of an answer: the refusal, 0 being done, and the repeat count, 0 where refused
-abbrev pub refusal : Answer → ℕ
-refusal (Repeats count) = 0
-refusal (Refused n) = n
-
-abbrev pub returned : Answer → ℕ
-returned (Repeats count) = count
-returned (Refused n) = 0
-
-abbrev pub outcome : Frame → Answer → Outcome
+abbrev pub outcome : Frame → Result ℕ Refusal → Outcome
 outcome frame answer = record { frame = frame; answer = answer }
 
 -- none yet, which is not frame 0
@@ -34,12 +26,12 @@ no_run_gives frame =
     (ltb 0 frame.number || ltb 0 frame.repeats)
 
 -- 16: frame number above 2,047, or a frame record that no run gives
-abbrev pub frame_tests : Frame → ℕ → List (Bool × ℕ)
-frame_tests frame number = (ltb 2047 number || no_run_gives frame, 16) ∷ []
+abbrev pub frame_tests : Frame → ℕ → List (Bool × Refusal)
+frame_tests frame number = (ltb 2047 number || no_run_gives frame, NoSuchFrame) ∷ []
 
 -- the refusal is that of the first test that holds
-abbrev pub refusal_of : Frame → ℕ → ℕ
-refusal_of frame number = first_of (frame_tests frame number) 0
+abbrev pub refusal_of : Frame → ℕ → Result Unit Refusal
+refusal_of frame number = judged (frame_tests frame number)
 
 -- first SOF: 0; same number again: one more, staying at 15; another number: 0
 unfoldable pub repeats_after : Frame → ℕ → ℕ
@@ -48,11 +40,12 @@ repeats_after frame number =
 
 -- the frame record is updated, and the repeat count comes back
 abbrev pub accepted : Frame → ℕ → Outcome
-accepted frame number = outcome (seen_frame number (repeats_after frame number)) (Repeats (repeats_after frame number))
+accepted frame number = outcome (seen_frame number (repeats_after frame number)) (Ok (repeats_after frame number))
 
 -- a refused call leaves the frame record as it was
-abbrev pub settled : ℕ → Frame → Outcome → Outcome
-settled n before done = cond (eqb n 0) done (outcome before (Refused n))
+abbrev pub settled : Result Unit Refusal → Frame → Outcome → Outcome
+settled (Ok done) before after = after
+settled (Err why) before after = outcome before (Err why)
 
 unfoldable pub counted_of : Frame → ℕ → Outcome
 counted_of frame number = settled (refusal_of frame number) frame (accepted frame number)

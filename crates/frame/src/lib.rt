@@ -4,25 +4,23 @@
 ghost use Rattle.std.specs.Prelude.{◌≡◌};
 ghost use Rattle.frame.specs.Frames.{empty, no_run_gives, refusal_of, repeats_after, counted_of, outcome};
 
+use refusals::Refusal;
+
 // The last frame number, and how often it came again directly. Before the first SOF none is seen, which is not frame 0.
-#[derive(Clone, Copy)]
+// A flag and no Option: refusal 16 is also about a number or a count where none is seen.
+#[derive(Clone, Copy, Debug, PartialEq, Eq)]
 pub struct Frame {
     pub seen: bool,
     pub number: u32,
     pub repeats: u32,
 }
 
-// The repeat count, or the number of the refusal.
-#[derive(Clone, Copy)]
-pub enum Answer {
-    Repeats(u32),
-    Refused(u8),
-}
-
-#[derive(Clone, Copy)]
+// The frame record after a call, and the repeat count. A type of its own beside state's Outcome: the definitions
+// and demands' theorems name the field `core` there, and `frame` here.
+#[derive(Clone, Copy, Debug, PartialEq, Eq)]
 pub struct Outcome {
     pub frame: Frame,
-    pub answer: Answer,
+    pub answer: Result<u32, Refusal>,
 }
 
 // The frame record before the first SOF.
@@ -41,32 +39,29 @@ fn no_run_gives(frame: Frame) -> bool
     ensures { result ≡ no_run_gives frame }
 {
     if frame.seen {
-        return (2047 < frame.number) | (15 < frame.repeats);
+        2047 < frame.number || 15 < frame.repeats
+    } else {
+        frame != empty()
     }
-    (0 < frame.number) | (0 < frame.repeats)
 }
 
-fn refusal(frame: Frame, number: u32) -> u8
+fn judge(frame: Frame, number: u32) -> Result<(), Refusal>
     ensures { result ≡ refusal_of frame number }
 {
-    if (2047 < number) | no_run_gives(frame) {
-        return 16;
+    if 2047 < number || no_run_gives(frame) {
+        return Err(Refusal::NoSuchFrame);
     }
-    0
+    Ok(())
 }
 
 #[tactic(auto, unfolding(crate::specs::Frames::repeats_after))]
 fn repeats_after(frame: Frame, number: u32) -> u32
     ensures { result ≡ repeats_after frame number }
 {
-    let before = frame.repeats;
-    if !frame.seen | (frame.number != number) {
+    if !frame.seen || frame.number != number {
         return 0;
     }
-    if 15 <= before {
-        return 15;
-    }
-    before + 1
+    frame.repeats.saturating_add(1).min(15)
 }
 
 // A refused call returns the frame record as it was.
@@ -74,27 +69,26 @@ fn repeats_after(frame: Frame, number: u32) -> u32
 pub fn counted(before: Frame, number: u32) -> Outcome
     ensures { result ≡ counted_of before number }
 {
-    let refusal = refusal(before, number);
     let repeats = repeats_after(before, number);
     let after = Frame {
         seen: true,
         number,
         repeats,
     };
-    if refusal != 0 {
-        return Outcome {
+    match judge(before, number) {
+        Ok(()) => Outcome {
+            frame: after,
+            answer: Ok(repeats),
+        },
+        Err(refusal) => Outcome {
             frame: before,
-            answer: Answer::Refused(refusal),
-        };
-    }
-    Outcome {
-        frame: after,
-        answer: Answer::Repeats(repeats),
+            answer: Err(refusal),
+        },
     }
 }
 
 // The same, with the frame record updated where it stands.
-pub fn count(frame: &mut Frame, number: u32) -> Answer
+pub fn count(frame: &mut Frame, number: u32) -> Result<u32, Refusal>
     ensures { outcome frame.new result ≡ counted_of frame.old number }
 {
     let next = counted(*frame, number);

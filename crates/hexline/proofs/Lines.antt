@@ -4,7 +4,7 @@ use native.Mathlib.Omega.{arith}
 use native.Mathlib.Decide.{dec_le}
 use native.Mathlib.Numerals.{add-one}
 use mathlib.Core.Path.{◌≡◌, refl, sym, ap, ◌∙◌}
-use mathlib.Core.Bool.{Bool, true, false, ◌&&◌, true≢false}
+use mathlib.Core.Bool.{Bool, true, false, ◌&&◌, and-false, true≢false}
 use mathlib.Core.List.{List, [], ◌∷◌, ◌++◌, append_assoc, append-nil}
 use lib.Dec.{eqb}
 use lib.ListN.{length, get_or, take, set, length-append, length-take, length-set}
@@ -15,7 +15,8 @@ use Rattle.laws.proofs.Bools.{both}
 use Rattle.laws.proofs.Lists.{all_append}
 use Rattle.hexline.specs.Digits.{is_digit, byte_of}
 use Rattle.hexline.specs.Line.{is_good, bytes_of, kept_of, Paired, Stands}
-use Rattle.hexline.specs.declared.line.Line.TheVariants.{Half}
+use Rattle.hexline.specs.declared.line.Line.{Line}
+use Rattle.hexline.specs.declared.line.Line.TheVariants.{Pairs, Half, Bad}
 
 -- ---- what is good
 
@@ -35,10 +36,6 @@ odd_not_good line e = rw (ne_eqb (length line % 2) 0 (λ h. omega arith))
 pub half_not_good : (pairs : List ℕ) (c : ℕ) → is_good pairs ≡ true → is_good (pairs ++ (c ∷ [])) ≡ false
 half_not_good pairs c e =
     odd_not_good (pairs ++ (c ∷ [])) (rw (length-append pairs (c ∷ [])) (omega (arith, even pairs e)))
-
-and-false : (t : Bool) → (t && false) ≡ false
-and-false true = refl
-and-false false = refl
 
 -- a character that is no digit stands in the line
 pub other_not_good : (pairs more : List ℕ) (high low : ℕ) → (is_digit high && is_digit low) ≡ false → is_good (pairs ++ (high ∷ low ∷ more)) ≡ false
@@ -143,12 +140,21 @@ unfolding is_good
 bad_not_empty [] h = absurd (true≢false (h []))
 bad_not_empty (x ∷ taken) h = ne_eqb (length (x ∷ taken)) 0 (λ e. omega arith)
 
+-- a state that is no pairs stands for a line that is neither good nor empty
+module _ (taken buffer : List ℕ) where
+  pub others_not_good : (line : Line) → ((n : ℕ) → line ≡ Pairs n → ⊥) → Stands taken line buffer → is_good taken ≡ false
+  others_not_good (Pairs n) other h = absurd (other n refl)
+  others_not_good (Half n c) other h = ap is_good h.1 ∙ half_not_good h.0 c h.2.good
+  others_not_good Bad other h = bad_not_good taken h
+
+  pub others_not_empty : (line : Line) → ((n : ℕ) → line ≡ Pairs n → ⊥) → Stands taken line buffer → eqb (length taken) 0 ≡ false
+  others_not_empty (Pairs n) other h = absurd (other n refl)
+  others_not_empty (Half n c) other h = ap (λ (l : List ℕ). eqb (length l) 0) h.1 ∙ half_not_empty h.0 c
+  others_not_empty Bad other h = bad_not_empty taken h
+
 -- ---- one character more
 
 module _ (taken : List ℕ) (c : ℕ) where
-  pub bad_more : ((more : List ℕ) → is_good (taken ++ more) ≡ false) → (more : List ℕ) → is_good ((taken ++ (c ∷ [])) ++ more) ≡ false
-  bad_more h more = ap is_good (append_assoc taken (c ∷ []) more) ∙ h (c ∷ more)
-
   module _ (high n : ℕ) (buffer : List ℕ) (p : Stands taken (Half n high) buffer) where
     pub half_other : (is_digit high && is_digit c) ≡ false → (more : List ℕ) → is_good ((taken ++ (c ∷ [])) ++ more) ≡ false
     half_other d more =

@@ -7,7 +7,7 @@ use mathlib.Core.Bool.{true}
 use mathlib.Core.List.{List, [], ◌∷◌, ◌++◌}
 use lib.Dec.{ltb}
 use lib.ListN.{length, get_or, take, drop, set}
-use lib.Seq.{take-suc, take_all, length-take-le}
+use lib.Seq.{take-suc, length-take-le}
 use borrow.Author.Tests.{ltb-true, eq-eqb}
 use Rattle.laws.specs.Lists.{all}
 use Rattle.laws.proofs.Bools.{both}
@@ -38,9 +38,6 @@ module _ (bytes out : List ℕ) (i : ℕ) where
       let more : spelt_of (take (i + 1) bytes) ≡ p ++ digits_of b = rw (add-one i, take-suc bytes i 0 h) (gather_append digits_of (take i bytes) (b ∷ [])) in
       let two : length p + 2 ≡ 2 * (i + 1) = omega arith in
       rw (more, ← two, ← n, add-one (length p)) (store_behind p (digits_of b) out (omega arith))
-
-  pub spelt_whole : length bytes ≤ i → spelt_of (take i bytes) ++ drop (2 * i) out ≡ spelt_of bytes ++ drop (2 * i) out
-  spelt_whole h = rw (take_all i bytes h)
 
 -- ---- the round trip
 

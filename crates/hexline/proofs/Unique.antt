@@ -1,12 +1,12 @@
 -- Under one contract no function has two outcomes, the lent text with them. What `read` leaves stands for a text, and two such states are answered alike;
 -- the bytes behind those kept, and which state stands for a line that is not good, its contract leaves open. Assumes nothing.
-use Prim.Native.Nat.{ℕ, zero, suc, ◌+◌, ◌*◌, ◌%◌, ◌<◌}
+use Prim.Native.Nat.{ℕ, zero, suc, ◌+◌, ◌*◌, ◌%◌, ◌<◌, min}
 use native.Mathlib.Omega.{arith}
 use mathlib.Core.Path.{◌≡◌, refl, sym, ap, ◌∙◌}
 use mathlib.Core.Bool.{Bool, true, cond, and-false, true≢false}
 use mathlib.Core.List.{List, [], ◌∷◌, ◌++◌}
 use lib.Dec.{eqb, ltb}
-use lib.ListN.{length, take, drop, replicate, length-append, length-replicate}
+use lib.ListN.{length, take, drop, set, replicate, length-append, length-replicate}
 use lib.Seq.{take_all, take-append_seam}
 use Rattle.laws.specs.Lists.{all}
 use Rattle.laws.proofs.Once.{Once, once}
@@ -23,6 +23,10 @@ front_once bytes n = once _
 -- how many, and the text
 pub spell_once : (bytes text : List ℕ) (r r' : ℕ) (t t' : List ℕ) → (r ≡ 2 * length bytes) × (t ≡ spelt_of bytes ++ drop r text) → (r' ≡ 2 * length bytes) × (t' ≡ spelt_of bytes ++ drop r' text) → (r ≡ r') × (t ≡ t')
 spell_once bytes text r r' t t' a b = let same = once _ r r' a.0 b.0 in (same, a.1 ∙ ap (λ (n : ℕ). spelt_of bytes ++ drop n text) same ∙ sym b.1)
+
+-- where those kept end, and the buffer
+pub keep_once : (buffer : List ℕ) (n byte r r' : ℕ) (b b' : List ℕ) → (r ≡ min (n + 1) (length buffer)) × (b ≡ set buffer n byte) → (r' ≡ min (n + 1) (length buffer)) × (b' ≡ set buffer n byte) → (r ≡ r') × (b ≡ b')
+keep_once buffer n byte r r' b b' k k' = (once _ r r' k.0 k'.0, once _ b b' k.1 k'.1)
 
 -- ---- the state of a reader
 

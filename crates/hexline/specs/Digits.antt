@@ -1,10 +1,6 @@
 -- Bytes as pairs of hexadecimal digits.
-use Rattle.std.specs.Prelude.{ℕ, ◌+◌, ◌-◌, ◌*◌, ◌/◌, ◌%◌, Bool, ◌&&◌, ◌||◌, cond, List, [], ◌∷◌, leb, ltb}
+use Rattle.std.specs.Prelude.{ℕ, ◌+◌, ◌-◌, ◌*◌, ◌/◌, ◌%◌, Bool, ◌&&◌, ◌||◌, cond, Option, Some, None, List, [], ◌∷◌, leb, ltb}
 use Rattle.laws.specs.Lists.{first_of, gather}
-use Rattle.hexline.specs.declared.digit.Digit.{Digit}
-use Rattle.hexline.specs.declared.digit.Digit.TheVariants as digit
-use Rattle.hexline.specs.declared.digit.Pair.{Pair}
-use Rattle.hexline.specs.declared.digit.Pair.TheVariants as pair
 
 -- a character from a to b
 abbrev pub within : ℕ → ℕ → ℕ → Bool
@@ -18,15 +14,15 @@ is_digit c = within 48 57 c || (within 65 70 c || within 97 102 c)
 unfoldable pub value_of : ℕ → ℕ
 value_of c = first_of ((leb c 57, c - 48) ∷ (leb c 70, c - 65 + 10) ∷ []) (c - 97 + 10)
 
-unfoldable pub digit_of : ℕ → Digit
-digit_of c = cond (is_digit c) (digit.Value (value_of c)) digit.Other
+unfoldable pub digit_of : ℕ → Option ℕ
+digit_of c = cond (is_digit c) (Some (value_of c)) None
 
 -- two digits, the higher first
 unfoldable pub byte_of : ℕ → ℕ → ℕ
 byte_of high low = value_of high * 16 + value_of low
 
-unfoldable pub pair_of : ℕ → ℕ → Pair
-pair_of high low = cond (is_digit high && is_digit low) (pair.Byte (byte_of high low)) pair.Other
+unfoldable pub pair_of : ℕ → ℕ → Option ℕ
+pair_of high low = cond (is_digit high && is_digit low) (Some (byte_of high low)) None
 
 -- the digit of a number below 16, in upper case
 unfoldable pub glyph_of : ℕ → ℕ

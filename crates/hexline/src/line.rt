@@ -2,10 +2,10 @@
 ghost use Rattle.std.specs.Prelude.{◌≡◌, cond, List, [], ◌∷◌, ◌++◌, ℕ, ◌+◌, ◌<◌, min, eqb, length, set};
 ghost use Rattle.hexline.specs.Line.{is_good, kept_of, Stands};
 
-use crate::digit::Pair;
 use crate::{digit, front};
 
-// What was taken: pairs, so many of whose bytes are kept; pairs and one character more; or what no good line begins with.
+// What was taken: pairs, so many of whose bytes are kept; pairs and one character more; or what no good line begins with. Bad is no None: it is
+// a state of the reader like the others, and `state_open` tells the three apart. The buffer is no field: what `begin` promises holds of each.
 #[derive(Clone, Copy)]
 pub enum Line {
     Pairs(usize),
@@ -19,8 +19,8 @@ pub fn begin() -> Line
     Line::Pairs(0)
 }
 
-// One byte more behind the first n, where there is room.
-fn keep(buffer: &mut [u8], n: usize, byte: u8) -> usize
+// One byte more behind the first n, where there is room, and where those kept end then.
+pub fn keep(buffer: &mut [u8], n: usize, byte: u8) -> usize
     ensures { (result ≡ min (n + 1) (length buffer.old)) × (buffer.new ≡ set buffer.old n byte) }
 {
     if n < buffer.len() {
@@ -36,8 +36,8 @@ pub fn next(line: Line, buffer: &mut [u8], c: u8) -> Line
     match line {
         Line::Pairs(n) => Line::Half(n, c),
         Line::Half(n, high) => match digit::join(high, c) {
-            Pair::Byte(byte) => Line::Pairs(keep(buffer, n, byte)),
-            Pair::Other => Line::Bad,
+            Some(byte) => Line::Pairs(keep(buffer, n, byte)),
+            None => Line::Bad,
         },
         Line::Bad => Line::Bad,
     }
@@ -48,10 +48,8 @@ pub fn read(line: Line, buffer: &mut [u8], part: &[u8]) -> Line
     ensures { (taken : List ℕ) → Stands taken line buffer.old → Stands (taken ++ part.now) result buffer.new }
 {
     let mut state = line;
-    let mut i = 0;
-    while i < part.len() {
-        state = next(state, buffer, part[i]);
-        i += 1;
+    for c in part {
+        state = next(state, buffer, *c);
     }
     state
 }
@@ -59,20 +57,16 @@ pub fn read(line: Line, buffer: &mut [u8], part: &[u8]) -> Line
 pub fn is_good(line: Line) -> bool
     ensures { (taken buffer : List ℕ) → Stands taken line buffer → result ≡ is_good taken }
 {
-    match line {
-        Line::Pairs(_) => true,
-        Line::Half(_, _) => false, // an odd count
-        Line::Bad => false,
-    }
+    matches!(line, Line::Pairs(_))
 }
 
 pub fn is_empty(line: Line) -> bool
     ensures { (taken buffer : List ℕ) → Stands taken line buffer → 0 < length buffer → result ≡ eqb (length taken) 0 }
 {
+    // A match, and no matches! with a guard: its last arm would not say that the state is no pairs, and the proof did not close.
     match line {
         Line::Pairs(n) => n == 0,
-        Line::Half(_, _) => false,
-        Line::Bad => false,
+        _ => false,
     }
 }
 
@@ -82,7 +76,6 @@ pub fn kept(line: Line, buffer: &[u8]) -> &[u8]
 {
     match line {
         Line::Pairs(n) => front(buffer, n),
-        Line::Half(_, _) => &buffer[..0],
-        Line::Bad => &buffer[..0],
+        _ => &[],
     }
 }

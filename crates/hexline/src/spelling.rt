@@ -9,11 +9,10 @@ pub fn spell(bytes: &[u8], text: &mut [u8]) -> usize
     requires { 2 * length bytes.now ≤ length text.old }
     ensures { (result ≡ 2 * length bytes.now) × (text.new ≡ spelt_of bytes.now ++ drop result text.old) }
 {
-    let mut i = 0;
-    while i < bytes.len() {
-        text[2 * i] = digit::glyph(bytes[i] / 16);
-        text[2 * i + 1] = digit::glyph(bytes[i] % 16);
-        i += 1;
+    // Two places a byte: the index says which.
+    for (i, b) in bytes.iter().enumerate() {
+        text[2 * i] = digit::glyph(*b / 16);
+        text[2 * i + 1] = digit::glyph(*b % 16);
     }
-    2 * i
+    2 * bytes.len()
 }

@@ -1,6 +1,5 @@
 pub mod Additive
 pub mod Bools
-pub mod Filling
 pub mod First
 pub mod Lists
 pub mod Once

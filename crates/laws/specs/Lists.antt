@@ -1,11 +1,11 @@
 -- Tests over lists, each in the list's own order.
 use Rattle.std.specs.Prelude.{ℕ, suc, Bool, true, ◌&&◌, cond, List, [], ◌∷◌, ◌++◌}
+use Rattle.std.specs.List.{list_all}
 
 module _ {A : Type 0} where
   -- each element passes
   abbrev pub all : (A → Bool) → List A → Bool
-  all f [] = true
-  all f (x ∷ xs) = f x && all f xs
+  all f xs = list_all f xs
 
   -- each element stands well with every later one
   abbrev pub pairs : (A → A → Bool) → List A → Bool

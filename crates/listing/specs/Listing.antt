@@ -6,8 +6,8 @@ use Rattle.bus.specs.Calls.{Left, packet_of}
 use Rattle.listing.specs.declared.desk.Desk.{Desk}
 
 -- what the desk says of the characters of a line that were taken: the reader's state, and how many they are
-pub record Taken (line : List ℕ) (desk : Desk) (packet : List ℕ) : Type 0 where
-  pub stands : Stands line desk.line packet
+pub record Taken (line : List ℕ) (desk : Desk) : Type 0 where
+  pub stands : Stands line desk.line desk.packet
   pub sized : desk.size ≡ min (length line) 4294967295
 
 -- the call of the packet whose bytes the line gives, with a fresh reply buffer

@@ -16,7 +16,7 @@ use Rattle.script.specs.Numbers.{is_decimal, value_from, largest, number_from, n
 use Rattle.script.specs.Words.{in_front, words_of, nth, word_at, same}
 use Rattle.script.specs.Intake.{unled, shortened, joined, kept_of}
 use Rattle.script.specs.Holding.{unspaced}
-use Rattle.script.specs.declared.number.Number.TheVariants.{Other}
+use Rattle.std.proofs.Common.{None}
 use Rattle.script.proofs.Numerals.{at_least, grows}
 use Rattle.script.proofs.Shortening.{shortened_length, shortened_none}
 use Rattle.script.proofs.Splitting.{some}
@@ -69,17 +69,17 @@ grows_by (suc k) m n [] h e = absurd (omega arith)
 grows_by (suc k) m n (c ∷ word) h e = grows_by k (m * 10) (n * 10 + (c - 48)) word (omega arith) (omega arith)
 
 -- eleven digits, of which the first is no zero
-too_long : (c : ℕ) (rest : List ℕ) → 48 < c → 10 ≤ length rest → number_of (c ∷ rest) ≡ Other
+too_long : (c : ℕ) (rest : List ℕ) → 48 < c → 10 ≤ length rest → number_of (c ∷ rest) ≡ None
 unfolding number_of number_from
 too_long c rest h k =
     let large : largest < value_from (0 * 10 + (c - 48)) rest = omega (arith, grows_by 10 1 (0 * 10 + (c - 48)) rest (omega arith) k) in
     rw (ne_eqb (length (c ∷ rest)) 0 (λ e. omega arith), lt-leb (value_from (0 * 10 + (c - 48)) rest) largest large, and-false (is_decimal c && all is_decimal rest))
 
-first_no_digit : (c : ℕ) (rest : List ℕ) → is_decimal c ≡ false → number_of (c ∷ rest) ≡ Other
+first_no_digit : (c : ℕ) (rest : List ℕ) → is_decimal c ≡ false → number_of (c ∷ rest) ≡ None
 unfolding number_of number_from
 first_no_digit c rest e = rw (ne_eqb (length (c ∷ rest)) 0 (λ k. omega arith), e)
 
-second_no_digit : (c d : ℕ) (rest : List ℕ) → is_decimal d ≡ false → number_of (c ∷ d ∷ rest) ≡ Other
+second_no_digit : (c d : ℕ) (rest : List ℕ) → is_decimal d ≡ false → number_of (c ∷ d ∷ rest) ≡ None
 unfolding number_of number_from
 second_no_digit c d rest e = rw (ne_eqb (length (c ∷ d ∷ rest)) 0 (λ k. omega arith), e, and-false (is_decimal c))
 

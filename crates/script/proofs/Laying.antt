@@ -7,8 +7,8 @@ use mathlib.Core.Bool.{Bool, true, false, not}
 use mathlib.Core.List.{List, [], ◌∷◌, ◌++◌, append-nil}
 use lib.ListN.{length, take, drop, drop_of_length-le, length-drop}
 use lib.Seq.{drop-drop, length-take-le}
-use lib.Dec.{leb}
-use borrow.Author.Tests.{leb-true, leb-false, le-leb, lt-leb, ne_eqb, not-true, not-false}
+use lib.Dec.{leb, eqb}
+use borrow.Author.Tests.{leb-true, le-leb, lt-leb, not-false}
 use Rattle.hexline.specs.Digits.{spelt_of}
 use Rattle.script.specs.Text.{Laid, shown_of}
 
@@ -16,9 +16,6 @@ use Rattle.script.specs.Text.{Laid, shown_of}
 module _ (size at n : ℕ) (answer : Bool) (tested : answer ≡ leb (at + n) size) where
   pub fits : not answer ≡ false → at + n ≤ size
   fits e = leb-true (at + n) size (sym tested ∙ not-false answer e)
-
-  pub fits_not : not answer ≡ true → size < at + n
-  fits_not e = leb-false (at + n) size (sym tested ∙ not-true answer e)
 
 pub room_left : (size at n : ℕ) → at ≤ size → leb n (size - at) ≡ leb (at + n) size
 room_left size at n h = pick (dec_le n (size - at))
@@ -51,10 +48,10 @@ came_back text bytes back at end h e f =
 pub whole : (digits part : List ℕ) (n : ℕ) → length part ≤ n → digits ++ drop n part ≡ digits
 whole digits part n h = rw (drop_of_length-le part h) (append-nil digits)
 
-pub shown_none : (bytes : List ℕ) → length bytes ≡ 0 → 45 ∷ [] ≡ shown_of bytes
+pub shown_none : (bytes : List ℕ) → eqb (length bytes) 0 ≡ true → 45 ∷ [] ≡ shown_of bytes
 unfolding shown_of
 shown_none bytes e = rw e
 
-pub shown_some : (bytes : List ℕ) → (length bytes ≡ 0 → ⊥) → spelt_of bytes ≡ shown_of bytes
+pub shown_some : (bytes : List ℕ) → eqb (length bytes) 0 ≡ false → spelt_of bytes ≡ shown_of bytes
 unfolding shown_of
-shown_some bytes h = rw (ne_eqb (length bytes) 0 h)
+shown_some bytes e = rw e

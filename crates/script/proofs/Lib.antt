@@ -1,9 +1,9 @@
 pub mod Appending
+pub mod Besides
 pub mod Keeping
 pub mod Kept
 pub mod Laying
 pub mod Numerals
-pub mod Parting
 pub mod Shortening
 pub mod Splitting
 pub mod Standing

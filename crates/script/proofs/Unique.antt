@@ -17,7 +17,7 @@ use Rattle.hexline.specs.declared.line.Line.{Line}
 use Rattle.hexline.proofs.Unique.{begin_once as hex_begin_once}
 use Rattle.script.specs.Numbers.{number_of}
 use Rattle.script.specs.Scan.{index_of}
-use Rattle.script.specs.Words.{words_of, word_at, same, place_of}
+use Rattle.script.specs.Words.{words_of, word_at, same, place_of, beside}
 use Rattle.script.specs.Intake.{last_of, kept_of, is_bytes, Stands}
 use Rattle.script.specs.Text.{Laid, Numbered, shown_of}
 use Rattle.script.specs.declared.intake.Intake.{Intake}
@@ -43,6 +43,9 @@ find_once text from to byte = once _
 
 pub place_once : (sought names : List ℕ) → Once (place_of sought (words_of names))
 place_once sought names = once _
+
+pub beside_once : {A : Type 0} (word : List ℕ) (rows : List (List ℕ × A)) → Once (beside word rows)
+beside_once word rows = once _
 
 -- ---- the text of an answer
 

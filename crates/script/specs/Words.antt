@@ -1,5 +1,5 @@
 -- The words of a line: the stretches between its spaces, so that two spaces in a row have an empty word between them.
-use Rattle.std.specs.Prelude.{ℕ, zero, suc, Bool, true, false, ◌&&◌, cond, List, [], ◌∷◌, eqb}
+use Rattle.std.specs.Prelude.{ℕ, zero, suc, Bool, true, false, ◌&&◌, cond, Option, Some, None, List, [], ◌∷◌, eqb}
 
 -- a character in front of the first word
 abbrev pub in_front : ℕ → List (List ℕ) → List (List ℕ)
@@ -30,3 +30,8 @@ same (c ∷ cs) (d ∷ ds) = eqb c d && same cs ds
 abbrev pub place_of : List ℕ → List (List ℕ) → ℕ
 place_of word [] = zero
 place_of word (name ∷ names) = cond (same word name) zero (suc (place_of word names))
+
+-- what stands beside the first of these that is the word
+abbrev pub beside : {A : Type 0} → List ℕ → List (List ℕ × A) → Option A
+beside word [] = None
+beside word (row ∷ rows) = cond (same word row.0) (Some row.1) (beside word rows)

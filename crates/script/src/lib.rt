@@ -8,7 +8,7 @@ mod text;
 mod words;
 
 pub use intake::{Intake, begin, bytes, is_bytes, is_empty, line, taken};
-pub use number::{Number, as_number};
+pub use number::as_number;
 pub use scan::find;
 pub use text::{put, put_bytes, put_number};
-pub use words::{count, is, place, word};
+pub use words::{beside, count, is, word};

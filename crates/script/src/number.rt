@@ -2,48 +2,35 @@
 ghost use Rattle.std.specs.Prelude.{◌≡◌};
 ghost use Rattle.script.specs.Numbers.{is_decimal, appended_of, number_of};
 
-// What a word says as a number: 0 to 4,294,967,295, without sign.
-#[derive(Clone, Copy)]
-pub enum Number {
-    Value(u32),
-    Other,
-}
-
+#[tactic(auto, unfolding(crate::specs::Numbers::is_decimal))]
 pub(crate) fn is_decimal(c: u8) -> bool
     ensures { result ≡ is_decimal c }
 {
-    (b'0' <= c) & (c <= b'9')
+    c.is_ascii_digit()
 }
 
 // A number with one digit more behind it.
-fn appended(value: u32, c: u8) -> Number
+#[tactic(auto, unfolding(crate::specs::Numbers::is_decimal, crate::specs::Numbers::number_from, crate::specs::Numbers::appended_of))]
+fn appended(value: u32, c: u8) -> Option<u32>
     ensures { result ≡ appended_of value c }
 {
     if !is_decimal(c) {
-        return Number::Other;
+        return None;
     }
-    let digit = c - b'0';
-    let longer = value as u64 * 10 + digit as u64;
-    if 4294967295 < longer {
-        return Number::Other;
-    }
-    Number::Value(longer as u32)
+    let tens = value.checked_mul(10)?;
+    tens.checked_add(u32::from(c - b'0'))
 }
 
-pub fn as_number(word: &[u8]) -> Number
+// What a word says as a number: 0 to 4,294,967,295, without sign.
+pub fn as_number(word: &[u8]) -> Option<u32>
     ensures { result ≡ number_of word.now }
 {
-    if word.len() == 0 {
-        return Number::Other;
+    if word.is_empty() {
+        return None;
     }
     let mut value = 0;
-    let mut i = 0;
-    while i < word.len() {
-        let Number::Value(longer) = appended(value, word[i]) else {
-            return Number::Other;
-        };
-        value = longer;
-        i += 1;
+    for c in word {
+        value = appended(value, *c)?;
     }
-    Number::Value(value)
+    Some(value)
 }

@@ -1,4 +1,4 @@
-// The text of an answer, put together from the front of a lent buffer.
+// The text of an answer, put together from the front of a lent buffer. Buffer and place are no struct: `Laid` holds of any place, also past the end.
 ghost use Rattle.std.specs.Prelude.{◌≡◌, ◌+◌, leb};
 ghost use Rattle.script.specs.Text.{Laid, Numbered, shown_of};
 
@@ -24,9 +24,11 @@ pub fn put(text: &mut [u8], at: usize, bytes: &[u8]) -> usize
     end
 }
 
+// Nothing here calls it: docs/STATEMENTS.md names it.
 pub fn put_number(text: &mut [u8], at: usize, n: u64) -> usize
     ensures { Numbered text.old at n result text.new }
 {
+    // Fixed memory: the digits of the largest number.
     let mut digits = [0u8; 20];
     let count = io::decimal(n, &mut digits);
     put(text, at, &digits[..count])
@@ -36,7 +38,7 @@ pub fn put_number(text: &mut [u8], at: usize, n: u64) -> usize
 pub fn put_bytes(text: &mut [u8], at: usize, bytes: &[u8]) -> usize
     ensures { Laid text.old at (shown_of bytes.now) result text.new }
 {
-    if bytes.len() == 0 {
+    if bytes.is_empty() {
         return put(text, at, b"-");
     }
     let count = 2 * bytes.len();

@@ -4,16 +4,10 @@ use mathlib.Core.Bool.{Bool, true, false, not, ◌&&◌, cond}
 use mathlib.Core.List.{List, [], ◌∷◌}
 use Rattle.laws.specs.Lists.{all, pairs}
 use Rattle.laws.proofs.Lists.{all_true, all_gather, all_same}
-use Rattle.state.specs.declared.Kind.TheVariants.{Control}
 use Rattle.state.specs.declared.Record.{Record}
-use Rattle.state.specs.declared.served.End.{End}
 use Rattle.state.specs.Update.{off_record}
 use Rattle.state.specs.Ranges.{live}
 use Rattle.state.specs.Served.{end_of, ends_of, ends, same_end, elsewhere, beside}
-
--- where no array element is
-abbrev pub no_end : End
-no_end = record { number = 0; kind = Control }
 
 against : (r s : Record) → live r.condition ≡ true → all (elsewhere (end_of r.endpoint)) (ends_of s) ≡ beside r s
 unfolding beside

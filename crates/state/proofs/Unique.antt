@@ -18,7 +18,7 @@ use Rattle.state.specs.declared.Record.{Record}
 use Rattle.state.specs.declared.Wait.{Wait}
 use Rattle.state.specs.declared.Wait.TheVariants.{Nothing}
 use Rattle.state.specs.declared.Core.{Core}
-use Rattle.state.specs.Events.{record_bits, system_bits}
+use Rattle.state.specs.Events.{record_bits, system_bits, record_events_of, system_events_of, record_events_in, system_events_in}
 use Rattle.state.specs.Ranges.{live, is_control, endpoint_fits, out_side, misplaced, is_armed, is_unused, done_of, is_zero}
 use Rattle.state.specs.Served.{serves_out, serves_in, beside}
 use Rattle.state.specs.Spans.{span_from, apart, armed_spans}
@@ -32,6 +32,18 @@ record_bits_once e = once _
 
 pub system_bits_once : (e : SystemEvents) → Once (system_bits e)
 system_bits_once e = once _
+
+pub record_events_once : (n : ℕ) → Once (record_events_of n)
+record_events_once n = once _
+
+pub system_events_once : (n : ℕ) → Once (system_events_of n)
+system_events_once n = once _
+
+pub record_events_in_once : (n : ℕ) → Once (record_events_in n)
+record_events_in_once n = once _
+
+pub system_events_in_once : (n : ℕ) → Once (system_events_in n)
+system_events_in_once n = once _
 
 -- ---- range
 
@@ -76,6 +88,7 @@ are_beside_once r s = once _
 
 -- ---- sound
 
+-- the library's `min` and `saturating_sub` take the place of two functions that had these
 pub smaller_once : (a b : ℕ) → Once (min a b)
 smaller_once a b = once _
 

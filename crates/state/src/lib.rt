@@ -1,28 +1,32 @@
 // The state of the core, as document 01 gives it under "State", and the test of whether it is sound.
 #![tactic(auto)]
 
+mod apart;
 pub mod events;
+mod fixed_list;
 pub mod range;
 pub mod served;
 pub mod sound;
 pub mod spans;
 pub mod update;
 
-#[derive(Clone, Copy)]
+use refusals::Refusal;
+
+#[derive(Clone, Copy, Debug, PartialEq, Eq)]
 pub enum Speed {
     Full,
     High,
 }
 
-// The variant that stands for zero comes first in each enum of a record.
-#[derive(Clone, Copy)]
+// The variant that stands for zero comes first in each enum of a record. Enums of as many names are no twins: each has document 01's words.
+#[derive(Clone, Copy, Debug, PartialEq, Eq)]
 pub enum Condition {
     Off,
     Normal,
     Halted,
 }
 
-#[derive(Clone, Copy)]
+#[derive(Clone, Copy, Debug, PartialEq, Eq)]
 pub enum Kind {
     Control,
     In,
@@ -30,7 +34,7 @@ pub enum Kind {
 }
 
 // What document 01 calls a record's type.
-#[derive(Clone, Copy)]
+#[derive(Clone, Copy, Debug, PartialEq, Eq)]
 pub enum Transfer {
     Control,
     Bulk,
@@ -74,27 +78,28 @@ pub struct SystemEvents {
     pub bus_reset: bool,
 }
 
-// The events of a record, by name.
-#[derive(Clone, Copy)]
+// The events of a record, by name and number.
+#[derive(Clone, Copy, Debug, PartialEq, Eq)]
 pub enum RecordEvent {
-    WaitEnded,
-    NotGood,
-    OutOfPlace,
-    FirstUsed,
-    SecondUsed,
-    NotTaken,
-    ShortPacket,
+    WaitEnded = 0,
+    NotGood = 1,
+    OutOfPlace = 2,
+    FirstUsed = 3,
+    SecondUsed = 4,
+    NotTaken = 5,
+    ShortPacket = 6,
 }
 
-#[derive(Clone, Copy)]
+#[derive(Clone, Copy, Debug, PartialEq, Eq)]
 pub enum SystemEvent {
-    BadToken,
-    BadPid,
-    Unserved,
-    BusReset,
+    BadToken = 20,
+    BadPid = 21,
+    Unserved = 22,
+    BusReset = 28,
 }
 
-#[derive(Clone, Copy)]
+// No Option of what is armed: these are document 01's two words for a descriptor, and demand 1's `in_span` is stated by them.
+#[derive(Clone, Copy, Debug, PartialEq, Eq)]
 pub enum Descriptor {
     Unallocated,
     Armed {
@@ -105,8 +110,8 @@ pub enum Descriptor {
     },
 }
 
-// A mark or a number of a buffer is a bool: false is buffer 0, `first`, and true is buffer 1, `second`. Condition and events stand first and
-// together: eight bytes, which the zero test of an off record reads at once.
+// A mark or a number of a buffer is a bool, as the definitions and the contracts have it: false is buffer 0, `first`, and true is buffer 1, `second`.
+// Condition and events stand first and together: eight bytes, which the zero test of an off record reads at once.
 #[derive(Clone, Copy)]
 pub struct Record {
     pub condition: Condition,
@@ -119,13 +124,13 @@ pub struct Record {
 }
 
 // What the data that is awaited follows.
-#[derive(Clone, Copy)]
+#[derive(Clone, Copy, Debug, PartialEq, Eq)]
 pub enum Stage {
     Setup,
     Out,
 }
 
-#[derive(Clone, Copy)]
+#[derive(Clone, Copy, Debug, PartialEq, Eq)]
 pub enum Wait {
     Nothing,
     Data {
@@ -147,4 +152,11 @@ pub struct Core {
     pub events: SystemEvents,
     pub records: [Record; 16],
     pub wait: Wait,
+}
+
+// What a call gives: the state after it, and what it answers or the refusal.
+#[derive(Clone, Copy)]
+pub struct Outcome<T> {
+    pub core: Core,
+    pub answer: Result<T, Refusal>,
 }

@@ -1,10 +1,12 @@
 // Whether the state is sound: document 01, "State". Every call of the core makes this test.
-ghost use Rattle.std.specs.Prelude.{◌≡◌, min, ◌-◌};
+ghost use Rattle.std.specs.Prelude.{◌≡◌, ◌&&◌, leb};
+ghost use Rattle.state.specs.Update.{record_at};
 ghost use Rattle.state.specs.Sound.{stage_fits, sends, wait_record, data_fits, acknowledge_fits, wait_fits, is_sound};
 
+use crate::fixed_list::FixedList;
 use crate::served::End;
 use crate::spans::Span;
-use crate::{Core, Descriptor, Kind, Record, Stage, Wait, range, served, spans, update};
+use crate::{Core, Descriptor, Kind, Record, Stage, Wait, apart, range, served, spans, update};
 
 fn stage_fits(stage: Stage, kind: Kind) -> bool
     ensures { result ≡ stage_fits stage kind }
@@ -18,69 +20,42 @@ fn stage_fits(stage: Stage, kind: Kind) -> bool
 fn data_fits(r: Record, stage: Stage) -> bool
     ensures { result ≡ data_fits r stage }
 {
-    let condition = r.condition;
-    let endpoint = r.endpoint;
-    let kind = endpoint.kind;
-    range::is_live(condition) & served::serves_out(kind) & stage_fits(stage, kind)
-}
-
-pub fn smaller(a: u32, b: u32) -> u32
-    ensures { result ≡ min a b }
-{
-    if a < b { a } else { b }
+    let kind = r.endpoint.kind;
+    range::is_live(r.condition) & served::serves_out(kind) & stage_fits(stage, kind)
 }
 
 // Left = length - done; an unsound done above the length leaves nothing.
-pub fn left_of(length: u32, done: u32) -> u32
-    ensures { result ≡ length - done }
-{
-    if done < length { length - done } else { 0 }
-}
-
 fn is_sent(maximum: u32, sent: u32, d: Descriptor) -> bool
     ensures { result ≡ sends maximum sent d }
 {
-    match d {
-        Descriptor::Unallocated => false,
-        Descriptor::Armed {
-            length,
-            done,
-            used,
-            ..
-        } => { !used & (sent == smaller(maximum, left_of(length, done))) }
-    }
+    matches!(
+        d,
+        Descriptor::Armed { length, done, used: false, .. }
+            if sent == maximum.min(length.saturating_sub(done))
+    )
 }
 
 fn acknowledge_fits(r: Record, buffer: bool, sent: u32) -> bool
     ensures { result ≡ acknowledge_fits r buffer sent }
 {
-    let condition = r.condition;
-    let endpoint = r.endpoint;
-    let kind = endpoint.kind;
-    let d = update::buffer_of(r, buffer);
-    range::is_live(condition)
+    let kind = r.endpoint.kind;
+    range::is_live(r.condition)
         & served::serves_in(kind)
         & (buffer == (range::is_control(kind) | r.next))
-        & is_sent(endpoint.maximum, sent, d)
+        & is_sent(r.endpoint.maximum, sent, update::buffer_of(r, buffer))
 }
 
-fn wait_record(wait: Wait) -> usize
-    ensures { result ≡ wait_record wait }
+fn wait_fits(core: &Core) -> bool
+    ensures { result ≡ (leb (wait_record core.now.wait) 15 && wait_fits (record_at core.now (wait_record core.now.wait)) core.now.wait) }
 {
-    match wait {
-        Wait::Nothing => 0,
-        Wait::Data { record, .. } => record,
-        Wait::Acknowledge { record, .. } => record,
-    }
-}
-
-fn wait_fits(r: Record, wait: Wait) -> bool
-    ensures { result ≡ wait_fits r wait }
-{
-    match wait {
+    match core.wait {
         Wait::Nothing => true,
-        Wait::Data { stage, .. } => data_fits(r, stage),
-        Wait::Acknowledge { buffer, length, .. } => acknowledge_fits(r, buffer, length),
+        Wait::Data { record, stage } => record < 16 && data_fits(core.records[record], stage),
+        Wait::Acknowledge {
+            record,
+            buffer,
+            length,
+        } => record < 16 && acknowledge_fits(core.records[record], buffer, length),
     }
 }
 
@@ -89,53 +64,25 @@ fn wait_fits(r: Record, wait: Wait) -> bool
 pub fn is_sound(core: Core) -> bool
     ensures { result ≡ is_sound core }
 {
-    let memory = core.memory_size;
-    let speed = core.speed;
-    if 131072 < memory {
+    if 131072 < core.memory_size || 127 < core.address {
         return false;
     }
-    if 127 < core.address {
-        return false;
-    }
-    let none = End {
+    let mut ends = FixedList::<End, 16>::new(End {
         number: 0,
         kind: Kind::Control,
-    };
-    let mut ends = [none; 16];
-    let mut live: usize = 0;
-    let mut spans = [Span { base: 0, end: 0 }; 32];
-    let mut armed: usize = 0;
-    let mut i: usize = 0;
-    while i < 16 {
-        let r = core.records[i];
-        i += 1;
-        if !range::record_fits(memory, speed, r) {
+    });
+    let mut spans = FixedList::<Span, 32>::new(Span { base: 0, end: 0 });
+    for r in &core.records {
+        if range::is_live(r.condition) {
+            if !range::live_fits(core.memory_size, core.speed, *r) {
+                return false;
+            }
+            ends.push(served::end_of(r.endpoint));
+            spans.extend(spans::span_of(r.first));
+            spans.extend(spans::span_of(r.second));
+        } else if !range::is_zero(*r) {
             return false;
         }
-        let condition = r.condition;
-        if range::is_live(condition) {
-            let endpoint = r.endpoint;
-            let first = r.first;
-            let second = r.second;
-            ends[live] = served::end_of(endpoint);
-            live += 1;
-            spans[armed] = spans::span_of(first);
-            armed += spans::count_of(first);
-            spans[armed] = spans::span_of(second);
-            armed += spans::count_of(second);
-        }
     }
-    if !served::are_elsewhere(ends, live) {
-        return false;
-    }
-    if !spans::are_apart(spans, armed) {
-        return false;
-    }
-    let wait = core.wait;
-    let at = wait_record(wait);
-    if 15 < at {
-        return false;
-    }
-    let r = core.records[at];
-    wait_fits(r, wait)
+    apart::all_apart(ends.as_slice()) && apart::all_apart(spans.as_slice()) && wait_fits(&core)
 }

@@ -1,11 +1,12 @@
-// The updates of `specs/Update.antt`: with it, the one place that lists the fields of a record.
+// The updates of `specs/Update.antt`: with it and `is_zero`, the places that list the fields of a record.
+// Core and index stand one by one, as `record_at` and `with_record` are defined.
 ghost use Rattle.std.specs.Prelude.{◌≡◌};
 ghost use Rattle.state.specs.declared.Wait.TheVariants.{Nothing};
-ghost use Rattle.state.specs.Update.{no_events, no_system_events, data0, fresh, off_record, with_condition, with_next, with_events, with_toggles, with_buffers, buffer_of, with_buffer, noted, signalled, started, with_address, with_system_events, with_wait, record_at, with_record};
+ghost use Rattle.state.specs.Update.{no_events, no_system_events, data0, fresh, off_record, with_condition, with_next, with_events, with_toggles, buffer_of, with_buffer, noted, signalled, started, with_address, with_system_events, with_wait, record_at, with_record};
 
 use crate::{
     Condition, Core, Descriptor, Endpoint, Kind, Record, RecordEvent, RecordEvents, Speed,
-    SystemEvent, SystemEvents, Toggles, Transfer, Wait, events,
+    SystemEvent, SystemEvents, Toggles, Transfer, Wait,
 };
 
 pub fn no_events() -> RecordEvents
@@ -70,108 +71,100 @@ pub fn off_record() -> Record
     )
 }
 
-// A record with what cannot be stored to a field given anew.
-fn remade(r: Record, condition: Condition, first: Descriptor, second: Descriptor) -> Record
-    ensures { result ≡ with_buffers (with_condition r condition) first second }
-{
-    let endpoint = r.endpoint;
-    let events = r.events;
-    let toggles = r.toggles;
-    Record {
-        condition,
-        endpoint,
-        next: r.next,
-        events,
-        toggles,
-        first,
-        second,
-    }
-}
-
 pub fn with_condition(r: Record, condition: Condition) -> Record
     ensures { result ≡ with_condition r condition }
 {
-    let first = r.first;
-    let second = r.second;
-    remade(r, condition, first, second)
+    Record { condition, ..r }
 }
 
 pub fn with_next(r: Record, next: bool) -> Record
     ensures { result ≡ with_next r next }
 {
-    let mut q = r;
-    q.next = next;
-    q
+    Record { next, ..r }
 }
 
 pub fn with_events(r: Record, events: RecordEvents) -> Record
     ensures { result ≡ with_events r events }
 {
-    let mut q = r;
-    q.events = events;
-    q
+    Record { events, ..r }
 }
 
 pub fn with_toggles(r: Record, toggles: Toggles) -> Record
     ensures { result ≡ with_toggles r toggles }
 {
-    let mut q = r;
-    q.toggles = toggles;
-    q
-}
-
-fn with_buffers(r: Record, first: Descriptor, second: Descriptor) -> Record
-    ensures { result ≡ with_buffers r first second }
-{
-    let condition = r.condition;
-    remade(r, condition, first, second)
+    Record { toggles, ..r }
 }
 
 // Buffer 0, or 1 where `second`.
 pub fn buffer_of(r: Record, second: bool) -> Descriptor
     ensures { result ≡ buffer_of r second }
 {
-    let b0 = r.first;
-    let b1 = r.second;
-    if second { b1 } else { b0 }
+    if second { r.second } else { r.first }
 }
 
 pub fn with_buffer(r: Record, second: bool, d: Descriptor) -> Record
     ensures { result ≡ with_buffer r second d }
 {
-    let b0 = r.first;
-    let b1 = r.second;
     if second {
-        with_buffers(r, b0, d)
+        Record { second: d, ..r }
     } else {
-        with_buffers(r, d, b1)
+        Record { first: d, ..r }
     }
 }
 
+// Beside `signalled`: each body names its own fields.
 pub fn noted(e: RecordEvents, event: RecordEvent) -> RecordEvents
     ensures { result ≡ noted e event }
 {
-    let set = events::bit(event);
-    RecordEvents {
-        wait_ended: (set == 0) | e.wait_ended,
-        not_good: (set == 1) | e.not_good,
-        out_of_place: (set == 2) | e.out_of_place,
-        first_used: (set == 3) | e.first_used,
-        second_used: (set == 4) | e.second_used,
-        not_taken: (set == 5) | e.not_taken,
-        short_packet: (set == 6) | e.short_packet,
+    match event {
+        RecordEvent::WaitEnded => RecordEvents {
+            wait_ended: true,
+            ..e
+        },
+        RecordEvent::NotGood => RecordEvents {
+            not_good: true,
+            ..e
+        },
+        RecordEvent::OutOfPlace => RecordEvents {
+            out_of_place: true,
+            ..e
+        },
+        RecordEvent::FirstUsed => RecordEvents {
+            first_used: true,
+            ..e
+        },
+        RecordEvent::SecondUsed => RecordEvents {
+            second_used: true,
+            ..e
+        },
+        RecordEvent::NotTaken => RecordEvents {
+            not_taken: true,
+            ..e
+        },
+        RecordEvent::ShortPacket => RecordEvents {
+            short_packet: true,
+            ..e
+        },
     }
 }
 
 pub fn signalled(e: SystemEvents, event: SystemEvent) -> SystemEvents
     ensures { result ≡ signalled e event }
 {
-    let set = events::system_bit(event);
-    SystemEvents {
-        bad_token: (set == 20) | e.bad_token,
-        bad_pid: (set == 21) | e.bad_pid,
-        unserved: (set == 22) | e.unserved,
-        bus_reset: (set == 28) | e.bus_reset,
+    match event {
+        SystemEvent::BadToken => SystemEvents {
+            bad_token: true,
+            ..e
+        },
+        SystemEvent::BadPid => SystemEvents { bad_pid: true, ..e },
+        SystemEvent::Unserved => SystemEvents {
+            unserved: true,
+            ..e
+        },
+        SystemEvent::BusReset => SystemEvents {
+            bus_reset: true,
+            ..e
+        },
     }
 }
 
@@ -199,11 +192,10 @@ pub fn with_record(core: Core, i: usize, r: Record) -> Core
 pub fn with_system_events(core: Core, events: SystemEvents) -> Core
     ensures { result ≡ with_system_events core events }
 {
-    let mut next = core;
-    next.events = events;
-    next
+    Core { events, ..core }
 }
 
+// In place: by `..core` a loop of sound tests took 263 instructions a turn more, of 1,275.
 pub fn with_address(core: Core, address: u32) -> Core
     ensures { result ≡ with_address core address }
 {
@@ -216,73 +208,43 @@ pub fn with_address(core: Core, address: u32) -> Core
 pub fn started(memory_size: u32, speed: Speed) -> Core
     ensures { result ≡ started memory_size speed }
 {
-    let off = off_record();
-    let records = [off; 16];
-    let events = no_system_events();
     Core {
         memory_size,
         address: 0,
         speed,
-        events,
-        records,
+        events: no_system_events(),
+        records: [off_record(); 16],
         wait: Wait::Nothing,
     }
 }
 
+// No call of the core needs it alone: docs/STATEMENTS.md names it.
 pub fn with_wait(core: Core, wait: Wait) -> Core
     ensures { result ≡ with_wait core wait }
 {
-    let speed = core.speed;
-    let events = core.events;
-    let records = core.records;
-    Core {
-        memory_size: core.memory_size,
-        address: core.address,
-        speed,
-        events,
-        records,
-        wait,
-    }
+    Core { wait, ..core }
 }
 
-// Both at once: the records are copied once less.
+// Both at once and in place, as below: by `..core` an OUT token took 1,078 instructions more, of 4,453.
 pub fn with_record_and_wait(core: Core, i: usize, r: Record, wait: Wait) -> Core
     ensures { result ≡ with_wait (with_record core i r) wait }
 {
-    let speed = core.speed;
-    let events = core.events;
-    let mut records = core.records;
+    let mut next = core;
     if i < 16 {
-        records[i] = r;
+        next.records[i] = r;
     }
-    Core {
-        memory_size: core.memory_size,
-        address: core.address,
-        speed,
-        events,
-        records,
-        wait,
-    }
+    next.wait = wait;
+    next
 }
 
-// The event is noted where the record stands, and no wait is left.
+// The event is noted where the record stands, and no wait is left. In place, as above.
 pub fn with_wait_ended(core: Core, i: usize, event: RecordEvent) -> Core
     ensures { result ≡ with_wait (with_record core i (with_events (record_at core i) (noted (record_at core i).events event))) Nothing }
 {
-    let speed = core.speed;
-    let events = core.events;
-    let mut records = core.records;
+    let mut next = core;
     if i < 16 {
-        let r = records[i];
-        let before = r.events;
-        records[i] = with_events(r, noted(before, event));
+        next.records[i].events = noted(next.records[i].events, event);
     }
-    Core {
-        memory_size: core.memory_size,
-        address: core.address,
-        speed,
-        events,
-        records,
-        wait: Wait::Nothing,
-    }
+    next.wait = Wait::Nothing;
+    next
 }

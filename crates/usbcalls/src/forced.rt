@@ -1,69 +1,65 @@
 // Fields set with no judgement.
-use calls::Field;
-use state::{Core, Endpoint, Record, Toggles, update};
+use crate::port::Port;
+use calls::{Field, Forced};
+use state::{Endpoint, Record, Toggles, update};
 
-pub fn with_memory_size(core: Core, memory_size: u32) -> Core {
-    let mut next = core;
-    next.memory_size = memory_size;
-    next
-}
-
-fn with_endpoint(r: Record, endpoint: Endpoint) -> Record {
-    let mut next = r;
-    next.endpoint = endpoint;
-    next
-}
-
-pub fn with_field(r: Record, field: Field) -> Record {
+fn with_field(r: Record, field: Field) -> Record {
     let e = r.endpoint;
-    let toggles = r.toggles;
-    let kind = e.kind;
-    let transfer = e.transfer;
-    let number = e.number;
-    let maximum = e.maximum;
-    let out_side = toggles.out_side;
-    let in_side = toggles.in_side;
     match field {
-        Field::Condition(c) => update::with_condition(r, c),
-        Field::Kind(kind) => with_endpoint(
-            r,
-            Endpoint {
-                kind,
-                transfer,
-                number,
-                maximum,
+        Field::Condition(condition) => Record { condition, ..r },
+        Field::Kind(kind) => Record {
+            endpoint: Endpoint { kind, ..e },
+            ..r
+        },
+        Field::Type(transfer) => Record {
+            endpoint: Endpoint { transfer, ..e },
+            ..r
+        },
+        Field::Number(number) => Record {
+            endpoint: Endpoint { number, ..e },
+            ..r
+        },
+        Field::Maximum(maximum) => Record {
+            endpoint: Endpoint { maximum, ..e },
+            ..r
+        },
+        Field::Next(next) => Record { next, ..r },
+        Field::Events(events) => Record { events, ..r },
+        Field::OutToggle(out_side) => Record {
+            toggles: Toggles {
+                out_side,
+                ..r.toggles
             },
-        ),
-        Field::Type(transfer) => with_endpoint(
-            r,
-            Endpoint {
-                kind,
-                transfer,
-                number,
-                maximum,
+            ..r
+        },
+        Field::InToggle(in_side) => Record {
+            toggles: Toggles {
+                in_side,
+                ..r.toggles
             },
-        ),
-        Field::Number(number) => with_endpoint(
-            r,
-            Endpoint {
-                kind,
-                transfer,
-                number,
-                maximum,
-            },
-        ),
-        Field::Maximum(maximum) => with_endpoint(
-            r,
-            Endpoint {
-                kind,
-                transfer,
-                number,
-                maximum,
-            },
-        ),
-        Field::Next(b) => update::with_next(r, b),
-        Field::Events(n) => update::with_events(r, calls::record_events(n)),
-        Field::OutToggle(out_side) => update::with_toggles(r, Toggles { out_side, in_side }),
-        Field::InToggle(in_side) => update::with_toggles(r, Toggles { out_side, in_side }),
+            ..r
+        },
+    }
+}
+
+impl Port {
+    pub fn set(&mut self, forced: Forced) {
+        match forced {
+            Forced::Memory(memory_size) => self.core.memory_size = memory_size,
+            Forced::Address(address) => self.core.address = address,
+            Forced::Events(events) => self.core.events = events,
+            Forced::Wait(wait) => self.core.wait = wait,
+            Forced::Record(index, field) => {
+                let i = index as usize;
+                let r = update::record_at(self.core, i);
+                self.core = update::with_record(self.core, i, with_field(r, field));
+            }
+            Forced::Buffer(index, second, d) => {
+                let i = index as usize;
+                let r = update::record_at(self.core, i);
+                self.core = update::with_record(self.core, i, update::with_buffer(r, second, d));
+            }
+            Forced::Frame(frame) => self.frame = frame,
+        }
     }
 }

@@ -1,53 +1,45 @@
-// What a line can change beside the memory and the reply buffer.
-ghost use Rattle.std.specs.Prelude.{◌≤◌, length};
-
-use calls::Lend;
-use firmware::Outcome;
+// What the calls act on.
+use calls::Lent;
 use frame::Frame;
 use state::{Core, Speed};
 
-#[derive(Clone, Copy)]
+// The most that a line can lend.
+pub const MEMORY: usize = 131072;
+
+const REPLY: usize = 1040;
+
+#[derive(Drop)]
 pub struct Port {
     pub core: Core,
     pub frame: Frame,
-    pub lend: Lend,
+    pub lend: Option<Lent>,
+    pub memory: [u8; MEMORY],
+    pub reply: [u8; REPLY],
 }
 
-fn after(o: Outcome) -> Core {
-    o.core
-}
+impl Port {
+    // Before the first start: what a refused start returns.
+    pub fn new() -> Port {
+        Port {
+            core: firmware::start(u32::MAX, Speed::Full).core,
+            frame: frame::empty(),
+            lend: None,
+            memory: [0; MEMORY],
+            reply: [0; REPLY],
+        }
+    }
 
-// Before the first start: what a refused start returns.
-pub fn first() -> Port {
-    Port {
-        core: after(firmware::start(u32::MAX, Speed::Full)),
-        frame: frame::empty(),
-        lend: Lend::Default,
+    // How many bytes of the memory and of the reply buffer a call is lent.
+    pub fn lent(&self) -> Lent {
+        self.lend.unwrap_or(Lent {
+            memory: self.core.memory_size,
+            reply: 1027,
+        })
     }
 }
 
-fn smaller(a: u32, b: usize) -> usize
-    ensures { result ≤ b }
-{
-    let n = a as usize;
-    if n < b { n } else { b }
-}
-
-// How much of the memory a call is lent; all where a forced M is above it.
-pub fn lent_memory(lend: Lend, memory_size: u32, memory: &[u8]) -> usize
-    ensures { result ≤ length memory.now }
-{
-    match lend {
-        Lend::Default => smaller(memory_size, memory.len()),
-        Lend::Given(n, _) => smaller(n, memory.len()),
-    }
-}
-
-pub fn lent_reply(lend: Lend, reply: &[u8]) -> usize
-    ensures { result ≤ length reply.now }
-{
-    match lend {
-        Lend::Default => smaller(1027, reply.len()),
-        Lend::Given(_, n) => smaller(n, reply.len()),
-    }
+// The first n bytes; all where a forced M, or what a line lends, is above their number.
+pub fn front_mut(bytes: &mut [u8], n: u32) -> &mut [u8] {
+    let end = (n as usize).min(bytes.len());
+    &mut bytes[..end]
 }

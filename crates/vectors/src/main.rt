@@ -2,28 +2,15 @@
 #![tactic(auto)]
 
 use std::io;
-use wire::data::{Verdict, Written};
 use wire::token::Token;
-
-fn number(rt: &impl Print, n: u64, width: usize) -> io::Result<()> {
-    print!(rt; " {n:0width$x}")
-}
-
-fn word(rt: &impl Print, text: &[u8]) -> io::Result<()> {
-    rt.write_all(text)
-}
-
-fn byte(rt: &impl Print, b: u8) -> io::Result<()> {
-    print!(rt; "{b:02x}")
-}
 
 // The bytes in hexadecimal, and `-` for none.
 fn show(rt: &impl Print, bytes: &[u8]) -> io::Result<()> {
-    if bytes.len() == 0 {
-        word(rt, b"-")?;
+    if bytes.is_empty() {
+        print!(rt; "-")?;
     }
     for b in bytes {
-        byte(rt, *b)?;
+        print!(rt; "{b:02x}")?;
     }
     Ok(())
 }
@@ -32,53 +19,41 @@ fn show(rt: &impl Print, bytes: &[u8]) -> io::Result<()> {
 fn token(rt: &impl Print, packet: &[u8]) -> io::Result<()> {
     show(rt, packet)?;
     match wire::token::read(packet) {
-        Token::Good {
-            address,
-            endpoint,
-            frame,
-        } => {
-            number(rt, address as u64, 2)?;
-            number(rt, endpoint as u64, 1)?;
-            number(rt, frame as u64, 3)?;
-            word(rt, b"\n")
-        }
-        Token::Bad => word(rt, b" bad\n"),
+        Some(
+            Token {
+                address,
+                endpoint,
+                frame,
+            },
+        ) => println!(rt; " {address:02x} {endpoint:01x} {frame:03x}"),
+        None => println!(rt; " bad"),
     }
 }
 
-// A data packet's bytes, its verdict and its payload.
+// A data packet's bytes, its PID and its payload.
 fn read(rt: &impl Print, packet: &[u8]) -> io::Result<()> {
     show(rt, packet)?;
-    let mut verdict: u8 = 0;
-    let payload = wire::data::read(packet, &mut verdict);
-    match wire::data::numbered(verdict) {
-        Verdict::Good(_) => {
-            number(rt, verdict as u64, 1)?;
-            word(rt, b" ")?;
-            show(rt, payload)?;
-            word(rt, b"\n")
+    let read = wire::data::read(packet);
+    match read.verdict {
+        Some(kind) => {
+            let pid = u8::from(kind);
+            print!(rt; " {pid:01x} ")?;
+            show(rt, read.payload)?;
+            println!(rt)
         }
-        Verdict::NotGood => word(rt, b" not good\n"),
+        None => println!(rt; " not good"),
     }
-}
-
-fn front(rt: &impl Print, buffer: &[u8], n: usize) -> io::Result<()> {
-    if n <= buffer.len() {
-        read(rt, &buffer[0..n])?;
-    }
-    Ok(())
 }
 
 // What is written of a PID and a payload, read back.
 fn data(rt: &impl Print, pid: u32, payload: &[u8]) -> io::Result<()> {
     let mut buffer = [0u8; 1027];
     match wire::data::write(pid, payload, &mut buffer) {
-        Written::Packet(n) => front(rt, &buffer, n),
-        Written::Refused(n) => {
-            word(rt, b"refused")?;
-            number(rt, n as u64, 1)?;
-            word(rt, b"\n")
-        }
+        Ok(length) => match buffer.get(..length) {
+            Some(written) => read(rt, written),
+            None => Ok(()),
+        },
+        Err(refusal) => println!(rt; "refused {refusal}"),
     }
 }
 

@@ -6,7 +6,7 @@ use lib.ListN.{replicate}
 use Rattle.wire.specs.Crc.{step, after, bits, sent, g5, g16}
 use Rattle.wire.specs.Pid.{kind_of}
 use Rattle.wire.specs.Data.{verdict_of}
-use Rattle.wire.specs.declared.data.Verdict.{Verdict}
+use Rattle.std.specs.Prelude.{None}
 use Rattle.wire.proofs.RoundTrip.{ReadsBack, round_trip}
 
 -- the residuals of documents 000 and 004, 800Dh and 01100b highest power first, which is the lowest bit here: along document 003's packet of A9, and
@@ -24,6 +24,6 @@ pub witness : ReadsBack 3 (0xFF ∷ []) (replicate 1027 0)
 unfolding kind_of
 witness = round_trip 3 (0xFF ∷ []) refl (lit≤ tt) (replicate 1027 0) (lit≤ tt)
 
-pub not_good_witness : verdict_of [] ≡ Verdict.NotGood
+pub not_good_witness : verdict_of [] ≡ None
 unfolding verdict_of
 not_good_witness = refl

@@ -5,18 +5,12 @@ use mathlib.Core.List.{List, [], ◌∷◌, ◌++◌}
 use Prim.Native.Nat.{ℕ, suc, ◌+◌, ◌-◌, ◌≤◌}
 use native.Mathlib.Numerals.{add-one}
 use native.Mathlib.Omega.{arith}
-use lib.ListN.{length, take, drop, set, length-set}
-use Rattle.laws.proofs.Parts.{length_put_back, store_behind}
+use lib.ListN.{length, take, drop, set}
+use Rattle.laws.proofs.Parts.{store_behind}
 
 -- the PID byte, and behind it what the place of a payload of n bytes came back as
 abbrev begun : ℕ → ℕ → List ℕ → List ℕ → List ℕ
 begun h n back out = take 1 (set out 0 h) ++ (back ++ drop (n + 1 - 1) (drop 1 (set out 0 h)))
-
-pub begun_length : (h : ℕ) (payload back out : List ℕ) → back ≡ payload → length payload + 3 ≤ length out
-    → length (begun h (length payload) back out) ≡ length out
-begun_length h payload back out same fits =
-    let n : length back ≡ length payload = ap length same in
-    length_put_back (set out 0 h) back 1 (length payload + 1 - 1) (rw length-set (omega arith)) (omega arith) ∙ length-set out 0 h
 
 pub laid : (h : ℕ) (payload out : List ℕ) (lo hi : ℕ) → length payload + 3 ≤ length out
     → set (set (begun h (length payload) payload out) (length payload + 1) lo) (length payload + 1 + 1) hi

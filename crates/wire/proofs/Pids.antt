@@ -1,18 +1,15 @@
 -- The sixteen numbers and the sixteen kinds. Assumes nothing.
 use mathlib.Core.Path.{◌≡◌, refl, sym, ap, ◌∙◌}
-use mathlib.Core.Bool.{Bool, true, false, ◌||◌, cond, false≢true}
-use Prim.Native.Nat.{ℕ, zero, suc, ◌-◌, ◌≤◌, ◌<◌}
-use native.Mathlib.Nat.{le_of_suc-le-suc}
+use mathlib.Core.Bool.{Bool, true, false, cond, false≢true}
+use Prim.Native.Nat.{ℕ, ◌-◌, ◌≤◌, ◌<◌}
 use native.Mathlib.Decide.{dec_lt}
 use native.Mathlib.Omega.{arith}
-use lib.Arith.{lt-one, lt_of_le-ne}
 use lib.Dec.{eqb}
 use lib.ListN.{get_or-eq_default}
-use borrow.Author.Tests.{ne_eqb}
 use Rattle.laws.proofs.Table.{same_values}
 use Rattle.wire.specs.Pid.{number, kinds, kind_of, is_data, low, high, pid_of}
 use Rattle.wire.specs.declared.pid.Kind.{Kind}
-use Rattle.wire.specs.declared.pid.Pid.{Pid}
+use Rattle.std.specs.Prelude.{Some, None}
 
 -- each kind stands at its own number
 pub number_kind : (n : ℕ) → n < 16 → number (kind_of n) ≡ n
@@ -43,20 +40,6 @@ none : (n : ℕ) → 16 ≤ n → kind_of n ≡ Kind.Reserved
 unfolding kind_of
 none n h = get_or-eq_default kinds Kind.Reserved h
 
--- the numbers of the data PIDs
-pub data_number : (n : ℕ) → is_data (kind_of n) ≡ (eqb n 3 || eqb n 7 || eqb n 11 || eqb n 15)
-unfolding kind_of
-data_number n = go (dec_lt n 16)
-  where
-    numbers : ℕ → Bool
-    numbers n = eqb n 3 || eqb n 7 || eqb n 11 || eqb n 15
-
-    go : Dec (n < 16) → is_data (kind_of n) ≡ numbers n
-    go (yes h) = same_values (λ n. is_data (kind_of n)) numbers 16 refl n h
-    go (no h) =
-        ap is_data (none n (omega arith))
-        ∙ sym (simp (ne_eqb n 3 (λ e. h (omega arith)), ne_eqb n 7 (λ e. h (omega arith)), ne_eqb n 11 (λ e. h (omega arith)), ne_eqb n 15 (λ e. h (omega arith))))
-
 -- a data PID has four bits
 pub data_small : (n : ℕ) → is_data (kind_of n) ≡ true → n < 16
 data_small n e = go (dec_lt n 16)
@@ -65,29 +48,11 @@ data_small n e = go (dec_lt n 16)
     go (yes h) = h
     go (no h) = absurd (false≢true (sym (ap is_data (none n (omega arith))) ∙ e))
 
--- n is none of 1 to k
-abbrev pub Avoids : ℕ → ℕ → Type 0
-Avoids n zero = Unit {0}
-Avoids n (suc k) = Avoids n k × (n ≡ suc k → ⊥)
-
-zero_left : (k n : ℕ) → n < suc k → Avoids n k → n ≡ 0
-zero_left zero n h a = lt-one h
-zero_left (suc k) n h a = zero_left k n (lt_of_le-ne (le_of_suc-le-suc h) a.1) a.0
-
--- what is left where no arm of a match on 1 to 15 is taken
-pub left_reserved : (n : ℕ) → Avoids n 15 → Kind.Reserved ≡ kind_of n
-unfolding kind_of
-left_reserved n a = go (dec_lt n 16)
-  where
-    go : Dec (n < 16) → Kind.Reserved ≡ kind_of n
-    go (yes h) = sym (ap kind_of (zero_left 15 n h a))
-    go (no h) = sym (none n (omega arith))
-
 -- a byte that passes its check has the kind of its low four bits
-pub checked_kind : (byte : ℕ) {kind : Kind} → pid_of byte ≡ Pid.Checked kind → kind_of (low byte) ≡ kind
+pub checked_kind : (byte : ℕ) {kind : Kind} → pid_of byte ≡ Some kind → kind_of (low byte) ≡ kind
 unfolding pid_of
 checked_kind byte {kind} = go (eqb (high byte) (15 - low byte))
   where
-    go : (checked : Bool) → cond checked (Pid.Checked (kind_of (low byte))) Pid.Failed ≡ Pid.Checked kind → kind_of (low byte) ≡ kind
+    go : (checked : Bool) → cond checked (Some (kind_of (low byte))) None ≡ Some kind → kind_of (low byte) ≡ kind
     go true e = cc
     go false e = let z : ◌≡◌ {A = ℕ} 0 1 = cc in absurd (omega arith)

@@ -1,20 +1,19 @@
 -- The register goes through exclusive or, so bits may be put into it first; and the bits of bytes, a few at a time. Assumes nothing.
 use mathlib.Core.Path.{◌≡◌, refl, sym, ap, ap₂, ◌∙◌}
 use mathlib.Core.List.{List, [], ◌∷◌, ◌++◌, append_assoc}
-use Prim.Native.Nat.{ℕ, zero, suc, ◌+◌, ◌-◌, ◌*◌, ◌/◌, ◌%◌, ◌^◌, ◌≤◌, ◌<◌}
-use native.Mathlib.Nat.{zero-mul, zero-add, suc-add, pow-suc, mul_comm, mul_assoc}
+use Prim.Native.Nat.{ℕ, zero, suc, ◌+◌, ◌*◌, ◌/◌, ◌%◌, ◌^◌, ◌≤◌, ◌<◌}
+use native.Mathlib.Nat.{zero-mul, zero-add, suc-add, pow-suc, div-div-eq-div-mul}
 use native.Mathlib.Numerals.{add-one, one-add}
 use native.Mathlib.Omega.{arith}
 use lib.Arith.{lt-one}
 use lib.Bits.{bit_xor, xor_shr, xor_mod, xor_self, xor_zero_r, xor_lt}
-use lib.ListN.{length, get_or, take, drop, length-drop, drop_of_length-le, take-append-drop}
-use lib.Seq.{drop-cons, take_all}
+use lib.ListN.{length, get_or, take, drop, drop_of_length-le, take-append-drop}
+use lib.Seq.{drop-cons}
 use lib.Pow.{shr_lt, shr-shr, field, mod-mod-pow}
-use Rattle.laws.specs.Table.{values}
 use Rattle.laws.proofs.Additive.{Additive}
 use Rattle.laws.proofs.Xor.{xor_four, xor_pick, low_bit}
 use Rattle.wire.specs.Crc.{step, after, bits, sent}
-use Rattle.wire.specs.Wide.{little}
+use Rattle.std.specs.Int.{byte_at, bytes_low_first}
 
 -- ---- the bits of a number
 
@@ -37,40 +36,22 @@ bits_mod (suc n) v =
     (ap (λ (k : ℕ). v % 2 ^ k / 2) (sym (add-one n)) ∙ field v n 1)
     ∙ ap (λ (l : List ℕ). v % 2 ∷ l) (bits_mod n (v / 2))
 
--- a byte below a number
-pub bits_byte : (n b v : ℕ) → b < 256 → bits (8 + n) (b + 256 * v) ≡ bits 8 b ++ bits n v
-bits_byte n b v h =
-    let lo : (b + 256 * v) % 256 ≡ b = omega arith in
-    let hi : (b + 256 * v) / 256 ≡ v = omega arith in
-    bits_append 8 n (b + 256 * v)
-    ∙ ap₂ (λ (l : List ℕ) (q : ℕ). l ++ bits n q) (sym (bits_mod 8 (b + 256 * v)) ∙ ap (bits 8) lo) hi
-
 -- ---- the bits of bytes
 
--- each number of a list below 256
-abbrev pub Bytes : List ℕ → Type 0
-Bytes [] = Unit {0}
-Bytes (b ∷ bs) = (b < 256) × Bytes bs
+byte_is : (i n : ℕ) → byte_at i n ≡ n / 256 ^ i % 256
+byte_is zero n = omega arith
+byte_is (suc i) n = refl
 
-pub bytes_values : (f : ℕ → ℕ) → ((k : ℕ) → f k < 256) → (n i : ℕ) → Bytes (values f i n)
-bytes_values f h zero i = tt
-bytes_values f h (suc n) i = (h i, bytes_values f h n (suc i))
-
-pub bits_little : (bs : List ℕ) → Bytes bs → bits (8 * length bs) (little bs) ≡ sent bs
+-- the bytes of a number, its lowest first, have its bits
+pub sent_bytes : (i k n : ℕ) → sent (bytes_low_first i k n) ≡ bits (8 * k) (n / 256 ^ i)
 unfolding bits sent
-bits_little [] h = refl
-bits_little (b ∷ bs) h =
-    let e : 8 * suc (length bs) ≡ 8 + 8 * length bs = omega arith in
-    ap (λ (k : ℕ). bits k (b + 256 * little bs)) e ∙ bits_byte (8 * length bs) b (little bs) h.0
-    ∙ ap (λ (l : List ℕ). bits 8 b ++ l) (bits_little bs h.1)
-
--- two stretches as one number
-pub little_append : (xs ys : List ℕ) → little (xs ++ ys) ≡ little xs + 256 ^ length xs * little ys
-little_append [] ys = omega arith
-little_append (x ∷ xs) ys =
-    let n = length xs in
-    let e : 256 ^ suc n * little ys ≡ 256 * (256 ^ n * little ys) = rw (pow-suc, mul_comm (256 ^ n) 256, mul_assoc) refl in
-    ap (λ (k : ℕ). x + 256 * k) (little_append xs ys) ∙ omega arith
+sent_bytes i zero n = refl
+sent_bytes i (suc k) n =
+    let v = n / 256 ^ i in
+    let e : 8 + 8 * k ≡ 8 * suc k = omega arith in
+    let higher : n / 256 ^ suc i ≡ v / 256 = rw (pow-suc) (sym (div-div-eq-div-mul n (256 ^ i) 256)) in
+    ap₂ (λ (b : ℕ) (q : List ℕ). bits 8 b ++ q) (byte_is i n) (sent_bytes (suc i) k n)
+    ∙ ap₂ (λ (l m : List ℕ). l ++ m) (bits_mod 8 v) (ap (bits (8 * k)) higher) ∙ sym (bits_append 8 (8 * k) v) ∙ ap (λ (n : ℕ). bits n v) e
 
 pub sent_append : (xs ys : List ℕ) → sent (xs ++ ys) ≡ sent xs ++ sent ys
 unfolding sent
@@ -134,17 +115,8 @@ module _ (g : ℕ) where
   unfolding sent after
   byte_end r p i h = ap (λ (l : List ℕ). after g r (sent l)) (drop_of_length-le p h)
 
-  -- one turn of a loop over a number's bytes
-  pub low_byte : (r v n : ℕ) → after g r (bits (8 + n) v) ≡ after g (after g r (bits 8 (v % 256))) (bits n (v / 256))
-  low_byte r v n =
-      ap (after g r) (bits_append 8 n v) ∙ after_append r (bits 8 v) (bits n (v / 256))
-      ∙ ap (λ (l : List ℕ). after g (after g r l) (bits n (v / 256))) (sym (bits_mod 8 v))
-
   -- the bytes up to a place, and the bytes from there on
-  pub after_parts : (r : ℕ) (p : List ℕ) (k : ℕ) → after g (after g r (sent (take k p))) (sent (take (length p - k) (drop k p))) ≡ after g r (sent p)
+  pub after_parts : (r : ℕ) (p : List ℕ) (k : ℕ) → after g (after g r (sent (take k p))) (sent (drop k p)) ≡ after g r (sent p)
   after_parts r p k =
-      let e : length (drop k p) ≤ length p - k = simp length-drop (omega arith) in
-      sym (after_append r (sent (take k p)) (sent (take (length p - k) (drop k p))))
-      ∙ ap (after g r)
-      (sym (sent_append (take k p) (take (length p - k) (drop k p)))
-      ∙ ap (λ (l : List ℕ). sent (take k p ++ l)) (take_all (length p - k) (drop k p) e) ∙ ap sent (take-append-drop k p))
+      sym (after_append r (sent (take k p)) (sent (drop k p)))
+      ∙ ap (after g r) (sym (sent_append (take k p) (drop k p)) ∙ ap sent (take-append-drop k p))

@@ -11,16 +11,17 @@ use Rattle.wire.specs.Crc.{crc16}
 use Rattle.wire.specs.Pid.{kind_of, is_data, pid_of, pid_byte}
 use Rattle.wire.specs.Token.{word}
 use Rattle.wire.specs.Data.{packet, is_data_pid, stretch, check_sent, right_check, verdict_of, payload_by, payload_of, verdict_number, write_refusal, write_of, buffer_by, buffer_after}
-use Rattle.wire.specs.declared.data.Verdict.{Verdict}
-use Rattle.wire.specs.declared.data.Written.{Written}
+use Rattle.std.specs.Prelude.{Option, Some, Result, Ok}
+use Rattle.wire.specs.declared.pid.Kind.{Kind}
+use Rattle.refusals.specs.declared.Refusal.{Refusal}
 use Rattle.wire.proofs.Pids.{data_small, number_kind}
 use Rattle.wire.proofs.Reading.{good}
 
 -- the writer answers a length, and so much of the buffer afterwards is good with this PID and payload
 pub record ReadsBack (pid : ℕ) (payload buffer : List ℕ) : Type 0 where
-  pub written : write_of pid payload buffer ≡ Written.Packet (length payload + 3)
-  pub verdict_back : verdict_of (take (length payload + 3) (buffer_after pid payload buffer)) ≡ Verdict.Good (kind_of pid)
-  pub pid_back : verdict_number (Verdict.Good (kind_of pid)) ≡ pid
+  pub written : write_of pid payload buffer ≡ Ok (length payload + 3)
+  pub verdict_back : verdict_of (take (length payload + 3) (buffer_after pid payload buffer)) ≡ Some (kind_of pid)
+  pub pid_back : verdict_number (Some (kind_of pid)) ≡ pid
   pub payload_back : payload_of (take (length payload + 3) (buffer_after pid payload buffer)) ≡ payload
 
 module _ (pid : ℕ) (payload : List ℕ) where
@@ -67,7 +68,7 @@ module _ (pid : ℕ) (payload : List ℕ) where
         let e : pid_byte pid / 16 ≡ 15 - pid = omega (arith, data_small pid data_pid_lem) in
         simp (low_back, eq-eqb _ _ e) data_pid_lem
 
-    read : verdict_of (packet pid payload) ≡ Verdict.Good (kind_of pid)
+    read : verdict_of (packet pid payload) ≡ Some (kind_of pid)
     read =
         good (packet pid payload)
         (record {
@@ -80,15 +81,15 @@ module _ (pid : ℕ) (payload : List ℕ) where
 
     read_payload : payload_of (packet pid payload) ≡ payload
     unfolding payload_of
-    read_payload = ap (λ (v : Verdict). payload_by v (packet pid payload)) read ∙ inside
+    read_payload = ap (λ (v : Option Kind). payload_by v (packet pid payload)) read ∙ inside
 
     pub round_trip : (buffer : List ℕ) → 1027 ≤ length buffer → ReadsBack pid payload buffer
     unfolding write_refusal write_of buffer_after
     round_trip buffer room =
-        let done : write_of pid payload buffer ≡ Written.Packet (length payload + 3) =
+        let done : write_of pid payload buffer ≡ Ok (length payload + 3) =
         simp (le-ltb _ _ room, data_pid_lem, le-ltb _ _ most) in
         let front : take (length payload + 3) (buffer_after pid payload buffer) ≡ packet pid payload =
-        ap (λ (w : Written). take (length payload + 3) (buffer_by w pid payload buffer)) done
+        ap (λ (w : Result ℕ Refusal). take (length payload + 3) (buffer_by w pid payload buffer)) done
         ∙ take_at (packet pid payload) _ (length payload + 3) long in
         record {
           written = done;

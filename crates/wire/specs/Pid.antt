@@ -1,9 +1,7 @@
 -- Document 01, "Packets": the PID byte.
-use Rattle.std.specs.Prelude.{Bool, true, false, cond, List, [], ◌∷◌, ℕ, ◌+◌, ◌-◌, ◌*◌, ◌/◌, ◌%◌, eqb, get_or}
+use Rattle.std.specs.Prelude.{Bool, true, false, cond, List, [], ◌∷◌, ℕ, ◌+◌, ◌-◌, ◌*◌, ◌/◌, ◌%◌, eqb, get_or, Option, Some, None}
 use Rattle.wire.specs.declared.pid.Kind.{Kind}
 use Rattle.wire.specs.declared.pid.Kind.TheVariants.{Reserved, Out, Ack, Data0, Ping, Sof, Nyet, Data2, Split, In, Nak, Data1, Pre, Setup, Stall, Mdata}
-use Rattle.wire.specs.declared.pid.Pid.{Pid}
-use Rattle.wire.specs.declared.pid.Pid.TheVariants.{Checked, Failed}
 
 -- this paper's number of each kind: OUT 1, IN 9, SOF 5, SETUP 13, DATA0 3, DATA1 11, DATA2 7, MDATA 15, ACK 2, NAK 10, STALL 14,
 -- NYET 6, PRE/ERR 12, SPLIT 8, PING 4, reserved 0
@@ -59,8 +57,8 @@ low byte = byte % 16
 abbrev pub high : ℕ → ℕ
 high byte = byte / 16
 
-unfoldable pub pid_of : ℕ → Pid
-pid_of byte = cond (eqb (high byte) (15 - low byte)) (Checked (kind_of (low byte))) Failed
+unfoldable pub pid_of : ℕ → Option Kind
+pid_of byte = cond (eqb (high byte) (15 - low byte)) (Some (kind_of (low byte))) None
 
 -- the byte of a PID
 unfoldable pub pid_byte : ℕ → ℕ

@@ -1,8 +1,7 @@
 -- Document 01, "Packets": tokens.
-use Rattle.std.specs.Prelude.{cond, ◌&&◌, List, ℕ, ◌+◌, ◌*◌, ◌/◌, ◌%◌, eqb, length, get_or}
+use Rattle.std.specs.Prelude.{cond, ◌&&◌, List, ℕ, ◌+◌, ◌*◌, ◌/◌, ◌%◌, eqb, length, get_or, Option, Some, None}
 use Rattle.wire.specs.Crc.{crc5}
 use Rattle.wire.specs.declared.token.Token.{Token}
-use Rattle.wire.specs.declared.token.Token.TheVariants.{Good, Bad}
 
 -- two bytes, little-endian
 abbrev pub word : ℕ → ℕ → ℕ
@@ -26,8 +25,12 @@ check_field w = w / 2048
 abbrev pub token_word : List ℕ → ℕ
 token_word packet = word (get_or packet 1 0) (get_or packet 2 0)
 
+-- what that word says
+abbrev pub token : ℕ → Token
+token w = record { address = address w; endpoint = endpoint w; frame = frame w }
+
 -- a token: 3 bytes and the right check
-unfoldable pub token_of : List ℕ → Token
+unfoldable pub token_of : List ℕ → Option Token
 token_of packet =
     let w = token_word packet in
-    cond (eqb (length packet) 3 && eqb (crc5 (frame w)) (check_field w)) (Good (address w) (endpoint w) (frame w)) Bad
+    cond (eqb (length packet) 3 && eqb (crc5 (frame w)) (check_field w)) (Some (token w)) None

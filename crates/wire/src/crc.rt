@@ -1,7 +1,8 @@
 // The check of a payload: CRC16, eight bytes at a time.
-ghost use Rattle.std.specs.Prelude.{◌≡◌, [], ◌∷◌, ◌+◌, ◌*◌, ◌/◌, ◌≤◌, ◌<◌, length, take, drop};
+ghost use Rattle.std.specs.Prelude.{◌≡◌, ◌<◌};
+ghost use Rattle.std.specs.List.{concat};
 ghost use Rattle.wire.specs.Crc.{step, after, bits, sent, g16, crc16};
-ghost use Rattle.wire.specs.Wide.{little, settled};
+ghost use Rattle.wire.specs.Wide.{settled};
 
 // One bit.
 fn bit(r: u16, b: u16) -> u16
@@ -21,11 +22,9 @@ fn byte(r0: u16, b: u8) -> u16
 {
     let mut r = r0;
     let mut v = b as u16;
-    let mut k: usize = 0;
-    while k < 8 {
+    for _ in 0..8u32 {
         r = bit(r, v % 2);
         v = v / 2;
-        k += 1;
     }
     r
 }
@@ -36,27 +35,18 @@ fn each(r0: u16, p: &[u8]) -> u16
     ensures { result ≡ after g16 r0 (sent p.now) }
 {
     let mut r = r0;
-    let mut i = 0;
-    while i < p.len() {
-        r = byte(r, p[i]);
-        i += 1;
+    for b in p {
+        r = byte(r, *b);
     }
     r
 }
 
-// The register that a wide one, of 64 bits, stands for: where 64 zero bits take it.
+// The register that a wide one, of 64 bits, stands for: where 64 zero bits take it, and its own bits an empty one.
+#[tactic(auto, using(crate::proofs::Wide::bytes_in))]
 fn settle(wide: u64) -> u16
     ensures { result ≡ settled wide }
 {
-    let mut r: u16 = 0;
-    let mut v = wide;
-    let mut k: usize = 0;
-    while k < 8 {
-        r = byte(r, (v % 256) as u8);
-        v = v / 256;
-        k += 1;
-    }
-    r
+    each(0, &wide.to_le_bytes())
 }
 
 // 64 zero bits more, and the register stays wide: x^64 is x^18 + x^8 + x^3 modulo the generator.
@@ -68,46 +58,33 @@ fn onward(wide: u64) -> u64
     (s >> 18) ^ (s >> 8) ^ (s >> 3)
 }
 
-// Four bytes as one number, the first one lowest.
-fn four(b0: u8, b1: u8, b2: u8, b3: u8) -> u64
-    ensures { (result ≡ little (b0 ∷ b1 ∷ b2 ∷ b3 ∷ [])) × (result < 0x100000000) }
+// Eight bytes as one number: its bits are theirs.
+fn eight(bytes: [u8; 8]) -> u64
+    ensures { bits 64 result ≡ sent bytes }
 {
-    (b0 as u64) + (b1 as u64) * 0x100 + (b2 as u64) * 0x1_0000 + (b3 as u64) * 0x100_0000
+    u64::from_le_bytes(bytes)
 }
 
-// The eight bytes from place i as one number: its bits are theirs.
-fn eight(p: &[u8], i: usize) -> u64
-    requires { i + 8 ≤ length p.now }
-    ensures { bits 64 result ≡ sent (take 8 (drop i p.now)) }
-{
-    let low = four(p[i], p[i + 1], p[i + 2], p[i + 3]);
-    let high = four(p[i + 4], p[i + 5], p[i + 6], p[i + 7]);
-    low + high * 0x1_0000_0000
-}
-
-// The wide register after the whole eights of a stretch; the one that it begins with stands for all ones.
-#[tactic(auto, using(crate::proofs::Wide::eight_more))]
-fn eights(p: &[u8]) -> u64
-    ensures { settled result ≡ after g16 65535 (sent (take (length p.now / 8 * 8) p.now)) }
+// The wide register after each eight of a stretch; the one that it begins with stands for all ones.
+#[tactic(auto, unfolding(crate::specs::Crc::after, crate::specs::Crc::bits, crate::specs::Crc::step), using(crate::proofs::Wide::eight_next, crate::proofs::Wide::eight_end))]
+fn eights(p: &[[u8; 8]]) -> u64
+    ensures { settled result ≡ after g16 65535 (sent (concat p.now)) }
 {
     let mut wide: u64 = 0x1557_0000_0000_0000;
-    let mut i = 0;
-    let n = p.len();
-    while 8 <= n - i {
-        wide = onward(wide) ^ eight(p, i);
-        i += 8;
+    for bytes in p {
+        wide = onward(wide) ^ eight(*bytes);
     }
     wide
 }
 
-// Below eight bytes there is no whole eight.
-#[tactic(auto, unfolding(crate::specs::Crc::check), using(crate::proofs::Register::after_parts))]
+// Below two eights the wide register costs more than it saves.
+#[tactic(auto, unfolding(crate::specs::Crc::check), using(crate::proofs::Register::after_parts, crate::proofs::Wide::concat_eights))]
 pub fn check(p: &[u8]) -> u16
     ensures { result ≡ crc16 p.now }
 {
-    let n = p.len();
-    if n < 8 {
-        return 65535 - each(65535, p);
+    if p.len() < 16 {
+        return !each(65535, p);
     }
-    65535 - each(settle(eights(p)), &p[n / 8 * 8..])
+    let (whole, rest) = p.as_chunks::<8>();
+    !each(settle(eights(whole)), rest)
 }

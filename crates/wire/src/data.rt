@@ -1,46 +1,17 @@
 // Data packets, read and written.
 ghost use Rattle.std.specs.Prelude.{◌≡◌, ◌++◌, ◌+◌, ◌≤◌, ◌<◌, length, drop};
 ghost use Rattle.wire.specs.Crc.{crc16};
-ghost use Rattle.wire.specs.Pid.{kind_of, is_data, pid_of};
-ghost use Rattle.wire.specs.Data.{packet, is_data_pid, stretch, behind, right_check, verdict_of, verdict_from, DataRead, DataWritten};
+ghost use Rattle.wire.specs.Data.{packet, stretch, behind, right_check, verdict_of, verdict_from, DataRead, DataWritten};
 
-use crate::pid::{Kind, Pid};
+use crate::pid::Kind;
 use crate::{crc, pid, token};
+use refusals::Refusal;
 
-// What reading a data packet finds.
+// What reading a data packet finds: the kind of a good one's PID, and its payload where it stands; of any other no kind and an empty payload.
 #[derive(Clone, Copy)]
-pub enum Verdict {
-    Good(Kind),
-    NotGood,
-}
-
-// What writing one answers: the packet's length, or the number of the refusal.
-#[derive(Clone, Copy)]
-pub enum Written {
-    Packet(usize),
-    Refused(u8),
-}
-
-// The number of a data PID.
-#[tactic(auto, unfolding(crate::specs::Pid::kind_of))]
-fn is_data(number: u32) -> bool
-    ensures { result ≡ is_data (kind_of number) }
-{
-    match number {
-        3 | 7 | 11 | 15 => true,
-        _ => false,
-    }
-}
-
-// A checked data PID.
-#[tactic(auto, using(crate::proofs::Pids::checked_kind))]
-fn is_data_pid(byte: u8) -> bool
-    ensures { result ≡ is_data_pid (pid_of byte) }
-{
-    match pid::read(byte) {
-        Pid::Checked(_) => is_data((byte % 16) as u32),
-        Pid::Failed => false,
-    }
+pub struct Packet<'a> {
+    pub verdict: Option<Kind>,
+    pub payload: &'a [u8],
 }
 
 // Between the PID byte and the CRC16.
@@ -61,55 +32,51 @@ fn is_right(bytes: &[u8]) -> bool
     crc::check(cut(bytes)) == token::join(bytes[n - 2], bytes[n - 1])
 }
 
-// The tests in the order in which R-3 tells them apart.
+// The tests in the order of `faults`.
 #[tactic(auto, unfolding(crate::specs::Data::verdict_of))]
-fn judge(bytes: &[u8]) -> Verdict
+fn judge(bytes: &[u8]) -> Option<Kind>
     ensures { result ≡ verdict_of bytes.now }
 {
     let n = bytes.len();
     if n < 3 {
-        return Verdict::NotGood;
+        return None;
     }
     if 1027 < n {
-        return Verdict::NotGood;
+        return None;
     }
-    let first = bytes[0];
-    if !is_data_pid(first) {
-        return Verdict::NotGood;
+    let kind = pid::read(bytes[0])?;
+    if !pid::is_data(kind) {
+        return None;
     }
     if !is_right(bytes) {
-        return Verdict::NotGood;
+        return None;
     }
-    Verdict::Good(pid::named((first % 16) as u32))
+    Some(kind)
 }
 
-// Reads a data packet: returns its payload, the part of `bytes` between the PID byte and the CRC16, and lays down the verdict's number.
-pub fn read<'a>(bytes: &'a [u8], verdict: &mut u8) -> &'a [u8]
-    ensures { DataRead bytes.now bytes.entry.ref_ptr result.now result.ref_ptr verdict.new }
+// Reads a data packet: its payload is the part of `bytes` between the PID byte and the CRC16.
+pub fn read(bytes: &[u8]) -> Packet<'_>
+    ensures { DataRead bytes.now bytes.entry.ref_ptr result }
 {
     match judge(bytes) {
-        Verdict::Good(_) => {
-            *verdict = bytes[0] % 16;
-            cut(bytes)
-        }
-        Verdict::NotGood => {
-            *verdict = 0;
-            &bytes[..0]
-        }
+        Some(kind) => Packet {
+            verdict: Some(kind),
+            payload: cut(bytes),
+        },
+        None => Packet {
+            verdict: None,
+            payload: &bytes[..0],
+        },
     }
 }
 
-// The verdict of a number that `read` laid down.
+// The verdict of a number, for who holds one that the C export laid down; docs/STATEMENTS.md names it.
 #[tactic(auto, unfolding(crate::specs::Data::verdict_from))]
-pub fn numbered(number: u8) -> Verdict
+pub fn numbered(number: u8) -> Option<Kind>
     ensures { result ≡ verdict_from number }
 {
-    let pid = number as u32;
-    if is_data(pid) {
-        Verdict::Good(pid::named(pid))
-    } else {
-        Verdict::NotGood
-    }
+    let kind = pid::named(u32::from(number));
+    pid::is_data(kind).then_some(kind)
 }
 
 // The payload laid over `place`, and its check.
@@ -129,26 +96,25 @@ fn fill(pid: u8, payload: &[u8], buffer: &mut [u8])
 {
     let end = payload.len() + 1;
     buffer[0] = pid + 16 * (15 - pid);
-    let check = lay(payload, &mut buffer[1..end]);
-    buffer[end] = (check % 256) as u8;
-    buffer[end + 1] = (check / 256) as u8;
+    let [lo, hi] = lay(payload, &mut buffer[1..end]).to_le_bytes();
+    buffer[end] = lo;
+    buffer[end + 1] = hi;
 }
 
-// Writes the data packet of a PID and a payload.
-#[tactic(auto, unfolding(crate::specs::Data::write_refusal, crate::specs::Data::write_of, crate::specs::Data::buffer_after))]
-pub fn write(pid: u32, payload: &[u8], buffer: &mut [u8]) -> Written
+// Writes the data packet of a PID and a payload. A number and no Kind, since refusal 6 is about any number that is no data PID's.
+#[tactic(auto, unfolding(crate::specs::Data::write_refusal, crate::specs::Data::write_of, crate::specs::Data::buffer_after), using(crate::proofs::Pids::data_small))]
+pub fn write(pid: u32, payload: &[u8], buffer: &mut [u8]) -> Result<usize, Refusal>
     ensures { DataWritten pid payload.now buffer.old result buffer.new }
 {
     if buffer.len() < 1027 {
-        return Written::Refused(3);
+        return Err(Refusal::ReplyTooShort);
     }
-    if !is_data(pid) {
-        return Written::Refused(6);
+    if !pid::is_data(pid::named(pid)) {
+        return Err(Refusal::OutOfRange);
     }
     if 1024 < payload.len() {
-        return Written::Refused(6);
+        return Err(Refusal::OutOfRange);
     }
     fill(pid as u8, payload, buffer);
-    let length = payload.len() + 3;
-    Written::Packet(length)
+    Ok(payload.len() + 3)
 }

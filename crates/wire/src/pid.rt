@@ -1,9 +1,9 @@
 // PIDs: what kind of packet a first byte says.
 ghost use Rattle.std.specs.Prelude.{◌≡◌};
-ghost use Rattle.wire.specs.Pid.{kind_of, is_data, pid_of};
+ghost use Rattle.wire.specs.Pid.{number as pid_number, kind_of, is_data, pid_of};
 
 // The sixteen kinds, in the order of their numbers.
-#[derive(Clone, Copy)]
+#[derive(Clone, Copy, Debug, PartialEq, Eq)]
 pub enum Kind {
     Reserved,
     Out,
@@ -23,13 +23,15 @@ pub enum Kind {
     Mdata,
 }
 
-#[derive(Clone, Copy)]
-pub enum Pid {
-    Checked(Kind),
-    Failed,
+impl From<Kind> for u8 {
+    ghost from_gives = { λ kind n. n ≡ pid_number kind };
+
+    fn from(kind: Kind) -> u8 {
+        kind as u8
+    }
 }
 
-// The kind of that number: a PID's low four bits are one of the sixteen, and any greater number names none.
+// The kind of that number, by a match, as document 01 has it: a PID's low four bits are one of the sixteen, and any greater number names none.
 #[tactic(auto, unfolding(crate::specs::Pid::kind_of))]
 pub fn named(number: u32) -> Kind
     ensures { result ≡ kind_of number }
@@ -56,37 +58,16 @@ pub fn named(number: u32) -> Kind
 
 // A PID byte: its kind, if the high four bits are the complement of the low four.
 #[tactic(auto, unfolding(crate::specs::Pid::pid_of))]
-pub fn read(byte: u8) -> Pid
+pub fn read(byte: u8) -> Option<Kind>
     ensures { result ≡ pid_of byte }
 {
     let low = byte % 16;
-    if byte / 16 == 15 - low {
-        Pid::Checked(named(low as u32))
-    } else {
-        Pid::Failed
-    }
+    (byte / 16 == 15 - low).then_some(named(low as u32))
 }
 
 // The data PIDs.
 pub fn is_data(kind: Kind) -> bool
     ensures { result ≡ is_data kind }
 {
-    match kind {
-        Kind::Data0 => true,
-        Kind::Data1 => true,
-        Kind::Data2 => true,
-        Kind::Mdata => true,
-        Kind::Reserved => false,
-        Kind::Out => false,
-        Kind::Ack => false,
-        Kind::Ping => false,
-        Kind::Sof => false,
-        Kind::Nyet => false,
-        Kind::Split => false,
-        Kind::In => false,
-        Kind::Nak => false,
-        Kind::Pre => false,
-        Kind::Setup => false,
-        Kind::Stall => false,
-    }
+    matches!(kind, Kind::Data0 | Kind::Data1 | Kind::Data2 | Kind::Mdata)
 }

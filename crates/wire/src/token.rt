@@ -3,7 +3,7 @@ ghost use Rattle.std.specs.Prelude.{◌≡◌, ◌<◌};
 ghost use Rattle.wire.specs.Crc.{crc5};
 ghost use Rattle.wire.specs.Token.{word, token_of};
 
-// The check of each eleven bits.
+// The check of each eleven bits: document 01 has them as one table.
 const CRC5: [u8; 2048] = [
     2, 29, 21, 10, 5, 26, 18, 13, 12, 19, 27, 4, 11, 20, 28, 3, 30, 1, 9, 22, 25, 6, 14, 17, 16,
     15, 7, 24, 23, 8, 0, 31, 19, 12, 4, 27, 20, 11, 3, 28, 29, 2, 10, 21, 26, 5, 13, 18, 15, 16,
@@ -88,14 +88,11 @@ const CRC5: [u8; 2048] = [
 ];
 
 // What a token says: the address and the endpoint, or, of an SOF, the frame.
-#[derive(Clone, Copy)]
-pub enum Token {
-    Good {
-        address: u8,
-        endpoint: u8,
-        frame: u16,
-    },
-    Bad,
+#[derive(Clone, Copy, Debug, PartialEq, Eq)]
+pub struct Token {
+    pub address: u8,
+    pub endpoint: u8,
+    pub frame: u16,
 }
 
 fn check(bits: u16) -> u8
@@ -109,24 +106,24 @@ fn check(bits: u16) -> u8
 pub(crate) fn join(lo: u8, hi: u8) -> u16
     ensures { result ≡ word lo hi }
 {
-    (lo as u16) + 256 * (hi as u16)
+    u16::from_le_bytes([lo, hi])
 }
 
 // A token: three bytes and the right check.
 #[tactic(auto, unfolding(crate::specs::Token::token_of))]
-pub fn read(packet: &[u8]) -> Token
+pub fn read(packet: &[u8]) -> Option<Token>
     ensures { result ≡ token_of packet.now }
 {
     if packet.len() != 3 {
-        return Token::Bad;
+        return None;
     }
     let word = join(packet[1], packet[2]);
     if (check(word % 2048) as u16) != word / 2048 {
-        return Token::Bad;
+        return None;
     }
-    Token::Good {
+    Some(Token {
         address: (word % 128) as u8,
         endpoint: (word / 128 % 16) as u8,
         frame: word % 2048,
-    }
+    })
 }

@@ -11,7 +11,6 @@ loop-i-preserved c =
     let tested = c.with_address-core.ensures in
     record {
       within = omega arith;
-      counted = omega arith;
       summed = rw (add-one l.i) (ap₂ (λ (m n : ℕ). m + n) l.invariant.summed (c.yes-sound.ensures.value ∙ ap yes_of (tested ∙ l.invariant.same (l.i % 128))));
       same = λ a. ap (λ (core : Core). with_address core a) tested ∙ l.invariant.same a;
     }

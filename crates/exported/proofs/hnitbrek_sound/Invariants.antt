@@ -1,5 +1,5 @@
--- Each turn counts, and tests the set-up at its own address.
-use Rattle.std.proofs.Common.{◌≡◌, ℕ, ◌-◌, ◌≤◌}
+-- Each turn tests the set-up at its own address.
+use Rattle.std.proofs.Common.{◌≡◌, ℕ, ◌≤◌}
 use Rattle.state.specs.Update.{with_address}
 use Rattle.exported.specs.Scene.{set_up, sound_of}
 use Rattle.exported.proofs.hnitbrek_sound.Given as goal
@@ -8,10 +8,6 @@ abbrev pub invariant-loop-i : goal.invariant-loop-i
 invariant-loop-i l =
     record {
       within : l.sound ≤ l.i;
-      counted : l.i ≤ l.times;
       summed : l.sound ≡ sound_of (set_up l.maximum) l.i;
       same : (a : ℕ) → with_address l.core a ≡ with_address (set_up l.maximum) a;
     }
-
-abbrev pub decreases-loop-i : goal.decreases-loop-i
-decreases-loop-i l = l.times - l.i

@@ -1,10 +1,7 @@
 -- After i turns the first i bytes are spelt, and the text behind them is as it was.
-use Rattle.std.proofs.Common.{◌≡◌, ◌-◌, ◌*◌, ◌≤◌, ◌++◌, length, take, drop}
+use Rattle.std.proofs.Common.{◌≡◌, ◌*◌, ◌++◌, take, drop}
 use Rattle.hexline.specs.Digits.{spelt_of}
 use Rattle.hexline.proofs.spelling.spell.Given as goal
 
 abbrev pub invariant-loop-i : goal.invariant-loop-i
-invariant-loop-i l = (l.i ≤ length l.bytes) × (l.text ≡ spelt_of (take l.i l.bytes) ++ drop (2 * l.i) l.initial.text)
-
-abbrev pub decreases-loop-i : goal.decreases-loop-i
-decreases-loop-i l = length l.bytes - l.i
+invariant-loop-i l = l.text ≡ spelt_of (take l.i l.bytes) ++ drop (2 * l.i) l.initial.text

@@ -1,17 +1,23 @@
--- Each turn takes the characters up to the next space, and the space, or the rest of the part.
-use Rattle.std.proofs.Common.{◌≤◌, length, arith}
-use Rattle.script.proofs.Parting.{run_unspaced, run_and_space, run_alone}
+-- Each turn takes one character more of the part.
+use Rattle.std.proofs.Common.{ℕ, [], ◌∷◌, ◌++◌, take, sym, ap, ◌∙◌}
+use borrow.Author.Tests.{ne_eqb}
+use Rattle.hexline.proofs.Lines.{one_more, whole_part}
 use Rattle.script.proofs.intake.taken.Goals as goal
-use Rattle.script.proofs.intake.taken.Goals.{then-end-part, else-end-part}
+use Rattle.script.proofs.intake.taken.Goals.{then-c-eq32, else-c-eq32}
 
-pub loop-at-preserved : goal.loop-at-preserved
-loop-at-preserved c =
-    let find = c.find-end in
-    let l = c.loop-at in
+pub loop-c-preserved : goal.loop-c-preserved
+loop-c-preserved c =
+    let l = c.loop-c in
     let part = c.args.part.now in
-    let within : l.at ≤ length part = omega arith in
-    let run = run_unspaced part l.at find.result within find.ensures.value in
-    elim c.if-end-part.branch [
-      | then-end-part w ↦ λ line h. rw (w.now-is, w.kept-is) (rw (run_and_space part l.at find.result within find.ensures.value w.if-end-part.true line) at (w.parted-now.ensures _ _ (c.spoken-now.ensures _ run (l.invariant line h))))
-      | else-end-part w ↦ λ line h. rw (w.now-is, w.kept-is) (rw (run_alone part l.at find.result within find.ensures.value w.if-end-part.false line) at (c.spoken-now.ensures _ run (l.invariant line h)))
+    elim c.if-c-eq32.branch [
+      | then-c-eq32 w ↦
+          λ line h.
+          let more = ap (λ (x : ℕ). (line ++ take l.c-index part) ++ (x ∷ [])) (sym w.if-c-eq32.true) ∙ one_more line part l.c-index c.loop-c-test.true in
+          rw (w.now-is, w.kept-is, w.buffer-is) (rw more at (w.parted-now.ensures _ _ (l.invariant line h)))
+      | else-c-eq32 w ↦
+          λ line h.
+          rw (w.now-is, w.kept-is, w.buffer-is) (rw (one_more line part l.c-index c.loop-c-test.true) at (w.spoken-now.ensures _ (ne_eqb _ _ w.if-c-eq32.false) (l.invariant line h)))
     ]
+
+pub returns : goal.returns
+returns c = λ line h. rw (whole_part line _ _ c.loop-c-test.false) at (c.loop-c.invariant line h)

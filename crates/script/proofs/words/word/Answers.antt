@@ -1,14 +1,9 @@
--- The next space ends the first of the words that are left.
-use Rattle.std.proofs.Common.{arith, sym}
-use Rattle.script.proofs.Splitting.{word_turn, word_stop, word_end}
+-- The stretches between the spaces are the words.
+use Rattle.std.proofs.Common.{rules, tests, eqb, refl}
+use Rattle.std.proofs.lemmas.Iterator.Splits.{YieldsList-from_slice_split}
+use Rattle.std.proofs.lemmas.Iterator.Consumers.{nth_from_yields_List}
+use Rattle.script.proofs.Splitting.{word_got}
 use Rattle.script.proofs.words.word.Goals as goal
 
-pub returns-then-end-line : goal.returns-then-end-line
-returns-then-end-line c = sym (word_stop c.args.line.now _ _ _ _ c.loop-i.invariant.1 c.find-end.ensures.value c.loop-i.invariant.2 c.loop-i-test.true c.if-end-line.true)
-
-pub loop-i-preserved : goal.loop-i-preserved
-loop-i-preserved c =
-    (omega arith, omega arith, word_turn c.args.line.now _ _ _ _ c.loop-i.invariant.1 c.find-end.ensures.value c.loop-i.invariant.2 c.loop-i-test.true (omega arith))
-
 pub returns : goal.returns
-returns c = word_end c.args.line.now _ _ _ _ c.loop-i.invariant.1 c.find-end-2.ensures.value c.loop-i.invariant.2 c.loop-i-test.false
+returns c = rw c.unwrap_or.ensures (word_got _ _ _ _ refl (nth_from_yields_List _ _ _ c.nth.ensures.ran (YieldsList-from_slice_split _ (λ x. eqb x 32) c.args.line.now c.split.ensures.rest c.split.ensures.done c.split.ensures.closure (λ x b q k. search (rules, tests)))))

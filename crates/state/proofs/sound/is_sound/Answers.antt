@@ -1,48 +1,65 @@
 -- The walk tests every record and gathers every end and span, and the pairs of those are tested after it.
-use Rattle.std.proofs.Common.{◌≡◌, ◌∙◌, sym, rules, length}
-use borrow.Author.Tests.{le-leb, eq-eqb}
+use Rattle.std.proofs.Common.{◌≡◌, ◌∙◌, sym, rules, length, ◌&&◌}
+use Rattle.laws.specs.Lists.{pairs}
 use Rattle.state.specs.Update.{record_at}
-use Rattle.state.specs.Sound.{is_sound}
-use Rattle.state.proofs.Survey.{both_within, survey_off, survey_tests, survey_served, survey_apart}
+use Rattle.state.specs.Served.{elsewhere}
+use Rattle.state.specs.Spans.{apart}
+use Rattle.state.proofs.Survey.{both_within, survey_live, survey_off, stop_live, stop_off, survey_end}
 use Rattle.state.proofs.sound.is_sound.Goals as goal
+use Rattle.state.proofs.sound.is_sound.Goals.{then-is_live+else-not-live_fits, else-is_live+else-not-is_zero, then-all_apart, else-all_apart}
 
 pub span_of-requires : goal.span_of-requires
 span_of-requires c =
     let a = c.args.core in
-    (both_within a.memory_size a.speed (record_at a c.loop-i.i) (sym c.is_live.ensures ∙ c.if-is_live.true) (sym c.record_fits.ensures ∙ c.if-not-record_fits.false)).0
+    (both_within a.memory_size a.speed (record_at a c.loop-r.r-index) (sym c.live_fits.ensures ∙ c.if-not-live_fits.false)).0
 
 pub span_of-requires-then-is_live : goal.span_of-requires-then-is_live
 span_of-requires-then-is_live c =
     let a = c.args.core in
-    (both_within a.memory_size a.speed (record_at a c.loop-i.i) (sym c.is_live.ensures ∙ c.if-is_live.true) (sym c.record_fits.ensures ∙ c.if-not-record_fits.false)).1
+    (both_within a.memory_size a.speed (record_at a c.loop-r.r-index) (sym c.live_fits.ensures ∙ c.if-not-live_fits.false)).1
 
-pub loop-i-preserved : goal.loop-i-preserved
-loop-i-preserved c =
-    survey_off c.args.core (search rules) c.loop-i.ends c.loop-i.live c.loop-i.spans c.loop-i.armed c.loop-i.i c.loop-i.invariant c.loop-i-test.true (sym c.record_fits.ensures ∙ c.if-not-record_fits.false) (sym c.is_live.ensures ∙ c.if-is_live.false)
-
-pub returns-then-not-are_elsewhere : goal.returns-then-not-are_elsewhere
-unfolding is_sound
-returns-then-not-are_elsewhere c =
+pub loop-r-preserved : goal.loop-r-preserved
+loop-r-preserved c =
     let a = c.args.core in
-    let l = c.loop-i in
-    let o = c.loop-i-test.false in
+    let l = c.loop-r in
     let s : length a.records ≡ 16 = search rules in
-    simp (eq-eqb _ _ s, le-leb _ _ c.if-memory-gt131072.false, le-leb _ _ c.if-core-gt127.false, survey_tests a s l.ends l.live l.spans l.armed l.i l.invariant o, survey_served a s l.ends l.live l.spans l.armed l.i l.invariant o, ← c.are_elsewhere.ensures, c.if-not-are_elsewhere.true)
+    elim c.if-is_live.branch [
+      | then-is_live+else-not-live_fits w ↦ rw (w.ends-is, w.spans-is, w.push.ensures, w.extend-then-is_live.ensures, w.extend.ensures, w.end_of.ensures, w.span_of.ensures, w.span_of-then-is_live.ensures) (survey_live a s l.ends l.spans l.r-index l.invariant c.loop-r-test.true (sym c.is_live.ensures ∙ w.if-is_live.true) (sym w.live_fits.ensures ∙ w.if-not-live_fits.false))
+      | else-is_live+else-not-is_zero w ↦ rw (w.ends-is, w.spans-is) (survey_off a s l.ends l.spans l.r-index l.invariant c.loop-r-test.true (sym c.is_live.ensures ∙ w.if-is_live.false) (sym w.is_zero.ensures ∙ w.if-not-is_zero.false))
+    ]
 
-pub returns-then-not-are_apart : goal.returns-then-not-are_apart
-unfolding is_sound
-returns-then-not-are_apart c =
+pub returns-then-not-live_fits : goal.returns-then-not-live_fits
+returns-then-not-live_fits c =
     let a = c.args.core in
-    let l = c.loop-i in
-    let o = c.loop-i-test.false in
+    let l = c.loop-r in
     let s : length a.records ≡ 16 = search rules in
-    simp (eq-eqb _ _ s, le-leb _ _ c.if-memory-gt131072.false, le-leb _ _ c.if-core-gt127.false, survey_tests a s l.ends l.live l.spans l.armed l.i l.invariant o, survey_served a s l.ends l.live l.spans l.armed l.i l.invariant o, ← c.are_elsewhere.ensures, c.if-not-are_elsewhere.false, survey_apart a s l.ends l.live l.spans l.armed l.i l.invariant o, ← c.are_apart.ensures, c.if-not-are_apart.true)
+    sym (stop_live a s l.ends l.spans l.r-index l.invariant c.loop-r-test.true c.if-core-gt131072.false c.if-core-gt127.false (sym c.is_live.ensures ∙ c.if-is_live.true) (sym c.live_fits.ensures ∙ c.if-not-live_fits.true))
 
-pub returns : goal.returns
-unfolding is_sound
-returns c =
+pub returns-then-not-is_zero : goal.returns-then-not-is_zero
+returns-then-not-is_zero c =
     let a = c.args.core in
-    let l = c.loop-i in
-    let o = c.loop-i-test.false in
+    let l = c.loop-r in
     let s : length a.records ≡ 16 = search rules in
-    simp (eq-eqb _ _ s, le-leb _ _ c.if-memory-gt131072.false, le-leb _ _ c.if-core-gt127.false, survey_tests a s l.ends l.live l.spans l.armed l.i l.invariant o, survey_served a s l.ends l.live l.spans l.armed l.i l.invariant o, ← c.are_elsewhere.ensures, c.if-not-are_elsewhere.false, survey_apart a s l.ends l.live l.spans l.armed l.i l.invariant o, ← c.are_apart.ensures, c.if-not-are_apart.false, ← c.wait_record-at.ensures, le-leb _ _ c.if-at-gt15.false, ← c.wait_fits.ensures)
+    sym (stop_off a s l.ends l.spans l.r-index l.invariant c.loop-r-test.true c.if-core-gt131072.false c.if-core-gt127.false (sym c.is_live.ensures ∙ c.if-is_live.false) (sym c.is_zero.ensures ∙ c.if-not-is_zero.true))
+
+pub returns-then-all_apart-2 : goal.returns-then-all_apart-2
+returns-then-all_apart-2 c =
+    let a = c.args.core in
+    let l = c.loop-r in
+    let s : length a.records ≡ 16 = search rules in
+    let v : c.if-all_apart.value ≡ (pairs elsewhere l.ends && pairs apart l.spans) = elim c.if-all_apart.branch [
+      | then-all_apart w ↦ simp (w.value-is, ← w.as_slice-then-all_apart.ensures, ← w.all_apart-then-all_apart.ensures, ← c.as_slice.ensures, ← c.all_apart.ensures, w.if-all_apart.true)
+      | else-all_apart w ↦ simp (w.value-is, ← c.as_slice.ensures, ← c.all_apart.ensures, w.if-all_apart.false)
+    ] in
+    c.wait_fits.ensures ∙ sym (survey_end a s l.ends l.spans l.r-index l.invariant c.loop-r-test.false c.if-core-gt131072.false c.if-core-gt127.false ∙ simp (← v, c.if-all_apart-2.true))
+
+pub returns-else-all_apart-2 : goal.returns-else-all_apart-2
+returns-else-all_apart-2 c =
+    let a = c.args.core in
+    let l = c.loop-r in
+    let s : length a.records ≡ 16 = search rules in
+    let v : c.if-all_apart.value ≡ (pairs elsewhere l.ends && pairs apart l.spans) = elim c.if-all_apart.branch [
+      | then-all_apart w ↦ simp (w.value-is, ← w.as_slice-then-all_apart.ensures, ← w.all_apart-then-all_apart.ensures, ← c.as_slice.ensures, ← c.all_apart.ensures, w.if-all_apart.true)
+      | else-all_apart w ↦ simp (w.value-is, ← c.as_slice.ensures, ← c.all_apart.ensures, w.if-all_apart.false)
+    ] in
+    sym (survey_end a s l.ends l.spans l.r-index l.invariant c.loop-r-test.false c.if-core-gt131072.false c.if-core-gt127.false ∙ simp (← v, c.if-all_apart-2.false))

@@ -1,9 +1,7 @@
--- The eight bytes are four and then four, and a number of bytes has their bits.
-use Rattle.std.proofs.Common.{arith}
-use Rattle.wire.proofs.Wide.{eight_bytes}
+-- A number's bytes are those that it was read from, each below 256.
+use Rattle.std.proofs.Common.{rules}
+use Rattle.wire.proofs.Wide.{own_bits}
 use Rattle.wire.proofs.crc.eight.Goals as goal
 
 pub returns : goal.returns
-returns c =
-    eight_bytes c.args.p.now c.args.i c.four-low.result c.four-high.result (λ k. omega (arith, c.type_inv.p k)) c.requires
-    c.four-low.ensures.0 c.four-high.ensures.0
+returns c = own_bits c.args.bytes c.from_le_bytes.result (search rules) (λ k. search rules) c.from_le_bytes.ensures

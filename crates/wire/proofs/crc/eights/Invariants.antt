@@ -1,16 +1,9 @@
--- The wide register stands for the register after the bytes passed.
-use Rattle.std.proofs.Common.{◌≡◌, ◌-◌, ◌%◌, ◌≤◌, length, take}
+-- The eights that are left take the register, which the wide one stands for, to where all of them take all ones.
+use Rattle.std.proofs.Common.{◌≡◌, drop}
+use Rattle.std.specs.List.{concat}
 use Rattle.wire.specs.Crc.{after, sent, g16}
 use Rattle.wire.specs.Wide.{settled}
 use Rattle.wire.proofs.crc.eights.Given as goal
 
-abbrev pub invariant-loop-i : goal.invariant-loop-i
-invariant-loop-i l = record {
-  all : l.n ≡ length l.p;
-  within : l.i ≤ l.n;
-  eights : l.i % 8 ≡ 0;
-  register : settled l.wide ≡ after g16 65535 (sent (take l.i l.p));
-}
-
-abbrev pub decreases-loop-i : goal.decreases-loop-i
-decreases-loop-i l = l.n - l.i
+abbrev pub invariant-loop-bytes : goal.invariant-loop-bytes
+invariant-loop-bytes l = after g16 (settled l.wide) (sent (concat (drop l.bytes-index l.p))) ≡ after g16 65535 (sent (concat l.p))

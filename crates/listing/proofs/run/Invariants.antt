@@ -1,5 +1,0 @@
--- A turn fewer is left each time.
-use Rattle.listing.proofs.run.Given as goal
-
-abbrev pub decreases-loop-turns : goal.decreases-loop-turns
-decreases-loop-turns g l = l.turns
