@@ -23,7 +23,7 @@ packet_length : (pid : ℕ) (payload : List ℕ) → length (packet pid payload)
 unfolding packet
 packet_length pid payload = simp length-append (omega arith)
 
-module _ (toggle : Bool) (payload reply : List ℕ) (room : length reply ≡ 1027) (short : length payload ≤ 1024) where
+module _ (toggle : Bool) (payload reply : List ℕ) (room : 1027 ≤ length reply) (short : length payload ≤ 1024) where
   data_pid_lem : (t : Bool) → is_data (kind_of (data_pid t)) ≡ true
   unfolding kind_of
   data_pid_lem true = refl
@@ -31,7 +31,7 @@ module _ (toggle : Bool) (payload reply : List ℕ) (room : length reply ≡ 102
 
   pub sent : write_of (data_pid toggle) payload reply ≡ Ok (length payload + 3)
   unfolding write_of write_refusal
-  sent = simp (le-ltb (length reply) 1027 (omega (arith, room)), data_pid_lem toggle, le-ltb 1024 (length payload) short)
+  sent = simp (le-ltb (length reply) 1027 room, data_pid_lem toggle, le-ltb 1024 (length payload) short)
 
   pub sent_bytes : buffer_after (data_pid toggle) payload reply ≡ laid (packet (data_pid toggle) payload) reply
   unfolding buffer_after

@@ -93,10 +93,16 @@ impl Output {
         }
     }
 
-    // Nothing is written any more but the done counts.
+    // Nothing is written any more but the done counts: five writes, each tried whatever became of those before it.
     pub fn ended(&self, rt: &impl Print, out: u32, taken: u32) -> io::Result<()> {
         match self {
-            Output::Text => println!(rt; "out {out} in {taken}"),
+            Output::Text => {
+                let _ = print!(rt; "out ");
+                let _ = print!(rt; "{out}");
+                let _ = print!(rt; " in ");
+                let _ = print!(rt; "{taken}");
+                println!(rt)
+            }
             Output::Capture(_) => Ok(()),
         }
     }

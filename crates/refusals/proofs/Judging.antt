@@ -42,6 +42,11 @@ number_passed ts e = unnumbered ts (passed (numbered ts) (numbered_tests ts) (sy
 pub judged_passed : (ts : List (Bool × Refusal)) → judged ts ≡ Ok tt → Passed ts
 judged_passed ts e = number_passed ts (ap (λ (r : Result Unit Refusal). refusal r) e)
 
+-- an answer says the number of what was judged
+pub answered_refusal : {A : Type 0} (r : Result Unit Refusal) (a : A) → refusal (answered r a) ≡ refusal r
+answered_refusal (Ok done) a = refl
+answered_refusal (Err why) a = refl
+
 -- the other number answered to what was judged
 pub answered_returns : (r : Result Unit Refusal) (n : ℕ) → returned (answered r n) ≡ cond (eqb (refusal r) 0) n 0
 answered_returns (Ok done) n = refl

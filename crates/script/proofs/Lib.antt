@@ -4,6 +4,7 @@ pub mod Keeping
 pub mod Kept
 pub mod Laying
 pub mod Numerals
+pub mod Parting
 pub mod Shortening
 pub mod Splitting
 pub mod Standing

@@ -76,6 +76,14 @@ module _ (line : List ℕ) (intake : Intake) (kept buffer : List ℕ) (h : Stand
       (rw (front_ended line, word_ended line, shortened_none, k.1) (next_word (front_of line) (shortened (word_of line)) intake.length intake.start kept (holds line intake kept buffer h) size 32 m (rw size at k.0)))
       (rw (word_ended line) b)
 
+  -- it goes on, and then a space ends it
+  pub run_parted : (run : List ℕ) → unspaced run ≡ true → (next : Intake) (after : List ℕ) → HexStands [] next.bytes buffer
+      → Holds ((front_of line ++ shortened (word_of line ++ run)) ++ (32 ∷ [])) [] next.length next.start after → Stands ((line ++ run) ++ (32 ∷ [])) next after buffer
+  run_parted run u next after b k =
+      stands ((line ++ run) ++ (32 ∷ [])) next after buffer
+      (rw (front_ended (line ++ run), word_ended (line ++ run), shortened_none, front_longer line run u, last_longer line run u) k)
+      (rw (word_ended (line ++ run)) b)
+
   -- the last word goes on
   pub word_said : (run : List ℕ) → unspaced run ≡ true → (m : ℕ) (bytes : Line) (after buffer_after : List ℕ)
       → Holds (front_of line) (shortened (word_of line ++ run)) m intake.start after → HexStands (word_of line ++ run) bytes buffer_after

@@ -1,8 +1,9 @@
 // A line of any length, taken in parts. Of each word its first characters are kept, without the zeros in front of a number: what is dropped tells
 // no name and no number from another. The last word is also read as bytes.
-ghost use Rattle.std.specs.Prelude.{◌≡◌, false, ◌&&◌, cond, List, [], ◌∷◌, ◌++◌, ℕ, ◌+◌, ◌≤◌, eqb, ltb, length};
+ghost use Rattle.std.specs.Prelude.{◌≡◌, ◌&&◌, cond, List, [], ◌∷◌, ◌++◌, ℕ, ◌+◌, ◌≤◌, eqb, ltb, length};
 ghost use Rattle.hexline.specs.Line.{is_good};
 ghost use Rattle.hexline.specs.Line.{kept_of as bytes_kept};
+ghost use Rattle.hexline.specs.Line.{Stands as HexStands};
 ghost use Rattle.script.specs.Words.{words_of, same};
 ghost use Rattle.script.specs.Intake.{shortened, last_of, kept_of, is_bytes, Stands};
 ghost use Rattle.script.specs.Holding.{Holds};
@@ -34,7 +35,8 @@ pub fn begin() -> Intake
 
 // A space ends a word.
 fn parted(intake: Intake, kept: &mut [u8; 136]) -> Intake
-    ensures { (line buffer : List ℕ) → Stands line intake kept.old buffer → Stands (line ++ (32 ∷ [])) result kept.new buffer }
+    ensures begun { (buffer : List ℕ) → HexStands [] result.bytes buffer }
+    ensures held { (front word : List ℕ) → Holds front word intake.length intake.start kept.old → Holds ((front ++ word) ++ (32 ∷ [])) [] result.length result.start kept.new }
 {
     let start = hexline::keep(kept, intake.length, b' ');
     Intake {
@@ -74,30 +76,33 @@ fn lengthened(kept: &mut [u8; 136], start: usize, length: usize, c: u8) -> usize
     length + 1
 }
 
-// One character more of the last word.
-fn spoken(intake: Intake, kept: &mut [u8; 136], buffer: &mut [u8], c: u8) -> Intake
-    ensures { (line : List ℕ) → eqb c 32 ≡ false → Stands line intake kept.old buffer.old → Stands (line ++ (c ∷ [])) result kept.new buffer.new }
+// More characters of that word, and where it ends then.
+fn spoken(kept: &mut [u8; 136], start: usize, length: usize, run: &[u8]) -> usize
+    ensures { (front word : List ℕ) → Holds front (shortened word) length start kept.old → Holds front (shortened (word ++ run.now)) result start kept.new }
 {
-    Intake {
-        length: lengthened(kept, intake.start, intake.length, c),
-        bytes: hexline::read(intake.bytes, buffer, &[c]),
-        ..intake
+    let mut end = length;
+    for c in run {
+        end = lengthened(kept, start, end, *c);
     }
+    end
 }
 
-// A part of a line, behind the part that was taken before it.
+// A part of a line, behind the part that was taken before it. A word that a space ends is not read as bytes: only the last word is.
 pub fn taken(intake: Intake, kept: &mut [u8; 136], buffer: &mut [u8], part: &[u8]) -> Intake
     ensures { (line : List ℕ) → Stands line intake kept.old buffer.old → Stands (line ++ part.now) result kept.new buffer.new }
 {
     let mut now = intake;
-    for c in part {
-        if *c == b' ' {
-            now = parted(now, kept);
-        } else {
-            now = spoken(now, kept, buffer, *c);
-        }
+    let mut rest = part;
+    while let Some(end) = rest.iter().position(|c| *c == b' ') {
+        now.length = spoken(kept, now.start, now.length, &rest[..end]);
+        now = parted(now, kept);
+        rest = &rest[end + 1..];
     }
-    now
+    Intake {
+        length: spoken(kept, now.start, now.length, rest),
+        bytes: hexline::read(now.bytes, buffer, rest),
+        ..now
+    }
 }
 
 // Nothing here calls it: docs/STATEMENTS.md names it.

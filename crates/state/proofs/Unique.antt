@@ -18,7 +18,7 @@ use Rattle.state.specs.declared.Record.{Record}
 use Rattle.state.specs.declared.Wait.{Wait}
 use Rattle.state.specs.declared.Wait.TheVariants.{Nothing}
 use Rattle.state.specs.declared.Core.{Core}
-use Rattle.state.specs.Events.{record_bits, system_bits, record_events_of, system_events_of, record_events_in, system_events_in}
+use Rattle.state.specs.Events.{bit, system_bit, record_bits, system_bits, record_events_of, system_events_of, record_events_in, system_events_in}
 use Rattle.state.specs.Ranges.{live, is_control, endpoint_fits, out_side, misplaced, is_armed, is_unused, done_of, is_zero}
 use Rattle.state.specs.Served.{serves_out, serves_in, beside}
 use Rattle.state.specs.Spans.{span_from, apart, armed_spans}
@@ -26,6 +26,12 @@ use Rattle.state.specs.Sound.{is_sound}
 use Rattle.state.specs.Update.{no_events, no_system_events, data0, fresh, off_record, with_condition, with_next, with_events, with_toggles, buffer_of, with_buffer, noted, signalled, started, with_address, with_system_events, with_wait, record_at, with_record}
 
 -- ---- events
+
+pub bit_once : (event : RecordEvent) → Once (bit event)
+bit_once event = once _
+
+pub system_bit_once : (event : SystemEvent) → Once (system_bit event)
+system_bit_once event = once _
 
 pub record_bits_once : (e : RecordEvents) → Once (record_bits e)
 record_bits_once e = once _

@@ -1,13 +1,30 @@
 // The event bits as numbers, and back. A record's events and the system's stand twice: each body names its own
 // fields, and each conversion its own definition.
 ghost use Rattle.std.specs.Prelude.{◌≡◌, cond, ◌≤◌};
-ghost use Rattle.state.specs.Events.{record_bits, system_bits, weighs, record_events_of, system_events_of, record_events_in, system_events_in};
+ghost use Rattle.state.specs.Events.{bit, system_bit, record_bits, system_bits, weighs, record_events_of, system_events_of, record_events_in, system_events_in};
 
-use crate::{RecordEvents, SystemEvents};
+use crate::{RecordEvent, RecordEvents, SystemEvent, SystemEvents};
 
 // A number that is no sum of the named events' bits.
 #[derive(Clone, Copy, Debug, PartialEq, Eq)]
 pub struct Unnamed;
+
+// The number of an event's bit, which is its variant's.
+impl From<RecordEvent> for u32 {
+    ghost from_gives = { λ event n. n ≡ bit event };
+
+    fn from(event: RecordEvent) -> u32 {
+        event as u32
+    }
+}
+
+impl From<SystemEvent> for u32 {
+    ghost from_gives = { λ event n. n ≡ system_bit event };
+
+    fn from(event: SystemEvent) -> u32 {
+        event as u32
+    }
+}
 
 // The weight of an event's bit where the event is set.
 fn weigh(set: bool, weight: u32) -> u32

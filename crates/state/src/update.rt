@@ -218,7 +218,7 @@ pub fn started(memory_size: u32, speed: Speed) -> Core
     }
 }
 
-// No call of the core needs it alone: docs/STATEMENTS.md names it.
+// No call of the core needs it alone: the call script forces a wait by it.
 pub fn with_wait(core: Core, wait: Wait) -> Core
     ensures { result ≡ with_wait core wait }
 {

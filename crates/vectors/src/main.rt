@@ -25,7 +25,12 @@ fn token(rt: &impl Print, packet: &[u8]) -> io::Result<()> {
                 endpoint,
                 frame,
             },
-        ) => println!(rt; " {address:02x} {endpoint:01x} {frame:03x}"),
+        ) => {
+            print!(rt; " {address:02x}")?;
+            print!(rt; " {endpoint:01x}")?;
+            print!(rt; " {frame:03x}")?;
+            println!(rt)
+        }
         None => println!(rt; " bad"),
     }
 }
@@ -37,7 +42,8 @@ fn read(rt: &impl Print, packet: &[u8]) -> io::Result<()> {
     match read.verdict {
         Some(kind) => {
             let pid = u8::from(kind);
-            print!(rt; " {pid:01x} ")?;
+            print!(rt; " {pid:01x}")?;
+            print!(rt; " ")?;
             show(rt, read.payload)?;
             println!(rt)
         }
@@ -53,7 +59,11 @@ fn data(rt: &impl Print, pid: u32, payload: &[u8]) -> io::Result<()> {
             Some(written) => read(rt, written),
             None => Ok(()),
         },
-        Err(refusal) => println!(rt; "refused {refusal}"),
+        Err(refusal) => {
+            print!(rt; "refused")?;
+            print!(rt; " {refusal}")?;
+            println!(rt)
+        }
     }
 }
 

@@ -1,11 +1,12 @@
 -- The sixteen numbers and the sixteen kinds. Assumes nothing.
 use mathlib.Core.Path.{◌≡◌, refl, sym, ap, ◌∙◌}
-use mathlib.Core.Bool.{Bool, true, false, cond, false≢true}
+use mathlib.Core.Bool.{Bool, true, false, ◌||◌, cond, false≢true}
 use Prim.Native.Nat.{ℕ, ◌-◌, ◌≤◌, ◌<◌}
 use native.Mathlib.Decide.{dec_lt}
 use native.Mathlib.Omega.{arith}
 use lib.Dec.{eqb}
 use lib.ListN.{get_or-eq_default}
+use borrow.Author.Tests.{ne_eqb}
 use Rattle.laws.proofs.Table.{same_values}
 use Rattle.wire.specs.Pid.{number, kinds, kind_of, is_data, low, high, pid_of}
 use Rattle.wire.specs.declared.pid.Kind.{Kind}
@@ -39,6 +40,20 @@ kind_number Kind.Mdata = refl
 none : (n : ℕ) → 16 ≤ n → kind_of n ≡ Kind.Reserved
 unfolding kind_of
 none n h = get_or-eq_default kinds Kind.Reserved h
+
+-- the numbers of the data PIDs
+pub data_number : (n : ℕ) → is_data (kind_of n) ≡ (eqb n 3 || eqb n 7 || eqb n 11 || eqb n 15)
+unfolding kind_of
+data_number n = go (dec_lt n 16)
+  where
+    numbers : ℕ → Bool
+    numbers n = eqb n 3 || eqb n 7 || eqb n 11 || eqb n 15
+
+    go : Dec (n < 16) → is_data (kind_of n) ≡ numbers n
+    go (yes h) = same_values (λ n. is_data (kind_of n)) numbers 16 refl n h
+    go (no h) =
+        ap is_data (none n (omega arith))
+        ∙ sym (simp (ne_eqb n 3 (λ e. h (omega arith)), ne_eqb n 7 (λ e. h (omega arith)), ne_eqb n 11 (λ e. h (omega arith)), ne_eqb n 15 (λ e. h (omega arith))))
 
 -- a data PID has four bits
 pub data_small : (n : ℕ) → is_data (kind_of n) ≡ true → n < 16

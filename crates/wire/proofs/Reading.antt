@@ -69,7 +69,7 @@ data_kind byte = go (pid_of byte) refl
     go (Some kind) e h = ap is_data (checked_kind byte e) ∙ h
     go None e h = absurd (false≢true h)
 
--- the number that `read` lays down tells every verdict apart
+-- the number that the C export lays down tells every verdict apart
 pub verdict_numbered : (s : List ℕ) → verdict_from (verdict_number (verdict_of s)) ≡ verdict_of s
 unfolding verdict_from kind_of
 verdict_numbered s = go (verdict_of s) refl

@@ -10,11 +10,15 @@ use Rattle.refusals.specs.declared.Refusal.{Refusal}
 use Rattle.wire.specs.declared.data.Packet.{Packet}
 use Rattle.wire.specs.Crc.{crc16}
 use Rattle.wire.specs.Pid.{kind_of, is_data, pid_of}
+use Rattle.wire.specs.Pid.{number as pid_number}
 use Rattle.wire.specs.Token.{token_of}
 use Rattle.wire.specs.Data.{verdict_from, DataRead, DataWritten}
 
 pub check_once : (p : List ℕ) → Once (crc16 p)
 check_once p = once _
+
+pub pid_number_once : (kind : Kind) → Once (pid_number kind)
+pid_number_once kind = once _
 
 pub named_once : (number : ℕ) → Once (kind_of number)
 named_once number = once _

@@ -1,13 +1,10 @@
--- The last word grows by the character.
-use Rattle.std.proofs.Common.{[], ◌∷◌}
-use Rattle.script.proofs.Appending.{front_of, word_of}
-use Rattle.script.proofs.Standing.{holds, word_said}
+-- Each turn takes one character more of the run into the word.
+use Rattle.hexline.proofs.Lines.{one_more, whole_part}
 use Rattle.script.proofs.intake.spoken.Goals as goal
 
+pub loop-c-preserved : goal.loop-c-preserved
+loop-c-preserved c =
+    λ front word h. rw (one_more word c.args.run.now c.loop-c.c-index c.loop-c-test.true) at (c.lengthened-end.ensures front _ (c.loop-c.invariant front word h))
+
 pub returns : goal.returns
-returns c =
-    let a = c.args in
-    λ line u h.
-    word_said line a.intake a.kept.now a.buffer.now h (a.c ∷ []) (rw u) _ _ _ _
-    (c.lengthened.ensures (front_of line) (word_of line) (holds line a.intake a.kept.now a.buffer.now h))
-    (c.read.ensures (word_of line) h.bytes)
+returns c = λ front word h. rw (whole_part word c.args.run.now _ c.loop-c-test.false) at (c.loop-c.invariant front word h)
