@@ -5,14 +5,18 @@ use mathlib.Core.List.{List}
 use lib.ListN.{take, replicate}
 use Rattle.laws.proofs.Once.{Once, once}
 use Rattle.script.specs.Text.{Laid, shown_of}
+use Rattle.lines.specs.Texts.{Empty}
 use Rattle.script.proofs.Unique.{put_once as script_put_once, put_bytes_once as script_put_bytes_once}
 
 -- how many bytes were written, and the memory
-pub new_once : (N : ℕ) → Once {A = ℕ} 0 × Once (replicate {A = ℕ} N 0)
-new_once N = (once _, once _)
+empty_once : (memory : List ℕ) (n n' : ℕ) (b b' : List ℕ) → Empty n b memory → Empty n' b' memory → (n ≡ n') × (b ≡ b')
+empty_once memory n n' b b' e e' = (once _ n n' e.none_written e'.none_written, once _ b b' e.memory_is e'.memory_is)
 
-pub clear_once : (bytes : List ℕ) → Once {A = ℕ} 0 × Once bytes
-clear_once bytes = (once _, once _)
+pub new_once : (N n n' : ℕ) (b b' : List ℕ) → Empty n b (replicate N 0) → Empty n' b' (replicate N 0) → (n ≡ n') × (b ≡ b')
+new_once N = empty_once (replicate N 0)
+
+pub clear_once : (old : List ℕ) (n n' : ℕ) (b b' : List ℕ) → Empty n b old → Empty n' b' old → (n ≡ n') × (b ≡ b')
+clear_once old = empty_once old
 
 pub as_bytes_once : (bytes : List ℕ) (length : ℕ) → Once (take length bytes)
 as_bytes_once bytes length = once _

@@ -1,6 +1,7 @@
 // An answer's text, in fixed memory: it grows behind what was written, and what has no room is left out.
 ghost use Rattle.std.specs.Prelude.{◌≡◌, take, replicate, IsOk};
 ghost use Rattle.script.specs.Text.{Laid, shown_of};
+ghost use Rattle.lines.specs.Texts.{Empty};
 
 use std::fmt;
 
@@ -12,7 +13,7 @@ pub struct Text<const N: usize> {
 
 impl<const N: usize> Text<N> {
     pub fn new() -> Text<N>
-        ensures { (result.length ≡ 0) × (result.bytes ≡ replicate N 0) }
+        ensures { Empty result.length result.bytes (replicate N 0) }
     {
         Text {
             bytes: [0; N],
@@ -21,7 +22,7 @@ impl<const N: usize> Text<N> {
     }
 
     pub fn clear(&mut self)
-        ensures { (self.new.length ≡ 0) × (self.new.bytes ≡ self.old.bytes) }
+        ensures { Empty self.new.length self.new.bytes self.old.bytes }
     {
         self.length = 0;
     }

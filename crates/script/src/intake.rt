@@ -87,7 +87,7 @@ fn spoken(kept: &mut [u8; 136], start: usize, length: usize, run: &[u8]) -> usiz
     end
 }
 
-// A part of a line, behind the part that was taken before it. A word that a space ends is not read as bytes: only the last word is.
+// A part of a line, behind the part that was taken before it. Only what stands behind its last space is read as bytes: only the last word can be asked for.
 pub fn taken(intake: Intake, kept: &mut [u8; 136], buffer: &mut [u8], part: &[u8]) -> Intake
     ensures { (line : List ℕ) → Stands line intake kept.old buffer.old → Stands (line ++ part.now) result kept.new buffer.new }
 {
