@@ -2,7 +2,7 @@
 use Prim.Native.Nat.{ℕ, ◌+◌, ◌-◌, ◌≤◌, ◌<◌}
 use native.Mathlib.Omega.{arith}
 use mathlib.Core.Path.{◌≡◌, refl}
-use mathlib.Core.Bool.{Bool, true, false, ◌&&◌, cond, false≢true}
+use mathlib.Core.Bool.{Bool, true, false, ◌&&◌, cond, and-false, false≢true}
 use lib.Dec.{leb}
 use borrow.Author.Tests.{lt-leb, leb-true, leb-false}
 use Rattle.std.proofs.Common.{Some, None}
@@ -12,11 +12,7 @@ module _ (c : ℕ) where
   -- no range reaches past f
   past : 102 < c → is_digit c ≡ false
   unfolding is_digit
-  past h = rw (lt-leb c 57 (omega arith), lt-leb c 70 (omega arith), lt-leb c 102 h, and_false (leb 48 c), and_false (leb 65 c), and_false (leb 97 c))
-    where
-      and_false : (t : Bool) → (t && false) ≡ false
-      and_false true = refl
-      and_false false = refl
+  past h = rw (lt-leb c 57 (omega arith), lt-leb c 70 (omega arith), lt-leb c 102 h, and-false (leb 48 c), and-false (leb 65 c), and-false (leb 97 c))
 
   last : is_digit c ≡ true → c ≤ 102
   last e = pick (leb c 102) refl

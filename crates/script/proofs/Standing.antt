@@ -3,7 +3,7 @@ use Prim.Native.Nat.{ℕ, zero, suc, ◌+◌, ◌≤◌, ◌<◌, min}
 use native.Mathlib.Omega.{arith}
 use mathlib.Core.Path.{◌≡◌, refl, sym, ap, ◌∙◌}
 use mathlib.Core.Bool.{Bool, true, false, ◌&&◌, ◌||◌, and-false}
-use mathlib.Core.List.{List, [], ◌∷◌, ◌++◌}
+use mathlib.Core.List.{List, [], ◌∷◌, ◌++◌, append-nil}
 use lib.Dec.{eqb, ltb}
 use lib.ListN.{length, take, set, length-append, length-take}
 use borrow.Author.Tests.{eq-eqb, ne_eqb, lt-ltb, le-ltb}
@@ -68,21 +68,21 @@ module _ (line : List ℕ) (intake : Intake) (kept buffer : List ℕ) where
       }
 
 module _ (line : List ℕ) (intake : Intake) (kept buffer : List ℕ) (h : Stands line intake kept buffer) where
-  -- a space ends the last word
-  pub word_parted : length kept ≡ 136 → (m : ℕ) (bytes : Line) (after : List ℕ) → (m ≡ min (intake.length + 1) (length kept)) × (after ≡ set kept intake.length 32)
-      → HexStands [] bytes buffer → Stands (line ++ (32 ∷ [])) record { length = m; start = m; bytes = bytes } after buffer
-  word_parted size m bytes after k b =
-      stands (line ++ (32 ∷ [])) record { length = m; start = m; bytes = bytes } after buffer
-      (rw (front_ended line, word_ended line, shortened_none, k.1) (next_word (front_of line) (shortened (word_of line)) intake.length intake.start kept (holds line intake kept buffer h) size 32 m (rw size at k.0)))
-      (rw (word_ended line) b)
-
-  -- it goes on, and then a space ends it
+  -- the last word goes on, and a space ends it
   pub run_parted : (run : List ℕ) → unspaced run ≡ true → (next : Intake) (after : List ℕ) → HexStands [] next.bytes buffer
       → Holds ((front_of line ++ shortened (word_of line ++ run)) ++ (32 ∷ [])) [] next.length next.start after → Stands ((line ++ run) ++ (32 ∷ [])) next after buffer
   run_parted run u next after b k =
       stands ((line ++ run) ++ (32 ∷ [])) next after buffer
       (rw (front_ended (line ++ run), word_ended (line ++ run), shortened_none, front_longer line run u, last_longer line run u) k)
       (rw (word_ended (line ++ run)) b)
+
+  -- the same where it does not go on
+  pub word_parted : length kept ≡ 136 → (m : ℕ) (bytes : Line) (after : List ℕ) → (m ≡ min (intake.length + 1) (length kept)) × (after ≡ set kept intake.length 32)
+      → HexStands [] bytes buffer → Stands (line ++ (32 ∷ [])) record { length = m; start = m; bytes = bytes } after buffer
+  word_parted size m bytes after k b =
+      rw (append-nil line) at
+      (run_parted [] refl record { length = m; start = m; bytes = bytes } after b
+      (rw (append-nil (word_of line), k.1) (next_word (front_of line) (shortened (word_of line)) intake.length intake.start kept (holds line intake kept buffer h) size 32 m (rw size at k.0))))
 
   -- the last word goes on
   pub word_said : (run : List ℕ) → unspaced run ≡ true → (m : ℕ) (bytes : Line) (after buffer_after : List ℕ)
